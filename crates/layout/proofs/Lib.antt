@@ -1,0 +1,4 @@
+pub mod Below
+pub mod Ranks
+pub mod RunBlocks
+pub mod Sixteen

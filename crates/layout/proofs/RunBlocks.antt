@@ -1,0 +1,40 @@
+-- The blocks of a run. Assumes nothing.
+use mathlib.Core.Path.{_≡_, refl, sym, ap, _∙_}
+use mathlib.Core.Bool.{Bool, true, false, cond, not, _&&_}
+use mathlib.Core.Logic.{⊎-elim}
+use Prim.Native.Nat.{ℕ, _+_, _-_, _<_, _≤_}
+use native.Mathlib.Omega.{arith}
+use lib.Dec.{ltb}
+use Rattle.std.proofs.shelf.Tests.{lt-ltb, le-ltb, cond-true, cond-false, and-from, and-left, and-right, not-from-true, not-from-false, cases-lt, false≢true}
+use Rattle.std.specs.Options.{isSome}
+use Rattle.std.specs.declared.option.Option.the-variants.{None}
+use Rattle.layout.specs.Blocks.{trailer, rankOf, dataBlock}
+use Rattle.layout.specs.Runs.{runBlock, OnCard}
+use Rattle.layout.proofs.Ranks.{past-block, block-there, rank-le}
+
+module _ (start n i : ℕ) where
+  pub run-block-past : n ≤ i → runBlock start n i ≡ None
+  unfolding runBlock
+  run-block-past h = cond-false _ _ _ (and-left (ltb i n) (not (trailer start)) (le-ltb i n h))
+
+  pub run-block-trailer : trailer start ≡ true → runBlock start n i ≡ None
+  unfolding runBlock
+  run-block-trailer t = cond-false _ _ _ (and-right (ltb i n) (not (trailer start)) (not-from-true _ t))
+
+  pub run-block-rank : i < n → trailer start ≡ false → runBlock start n i ≡ dataBlock (rankOf start + i)
+  unfolding runBlock
+  run-block-rank h plain = cond-true _ _ _ (and-from (ltb i n) (not (trailer start)) (lt-ltb i n h) (not-from-false _ plain))
+
+module _ (start n : ℕ) (plain : trailer start ≡ false) where
+  pub on-card : rankOf start + n ≤ 216 → OnCard start n
+  on-card h = record {
+    starts = plain;
+    each = λ i l. ap isSome (run-block-rank start n i l plain) ∙ block-there (rankOf start + i) (omega arith);
+  }
+
+  -- the last block is there, so its rank is at most 215
+  pub on-card-within : start < 256 → OnCard start n → rankOf start + n ≤ 216
+  on-card-within h o = ⊎-elim (λ (none : n < 1). omega (arith, rank-le start h)) (λ (some : 1 ≤ n). ⊎-elim (λ (low : rankOf start + (n - 1) < 216). omega arith) (λ (past : 216 ≤ rankOf start + (n - 1)). absurd (false≢true (missing some past))) (cases-lt _ 216)) (cases-lt n 1)
+    where
+      missing : 1 ≤ n → 216 ≤ rankOf start + (n - 1) → false ≡ true
+      missing some past = sym (ap isSome (run-block-rank start n (n - 1) (omega arith) plain ∙ past-block _ past)) ∙ o .each (n - 1) (omega arith)

@@ -1,0 +1,18 @@
+use mathlib.Core.Path.{_≡_}
+use Prim.Native.Nat.{_+_}
+use native.Mathlib.Omega.{arith}
+use Rattle.std.proofs.shelf.Tests.{leb-true, le-leb}
+use Rattle.layout.specs.Blocks.{rankOf}
+use Rattle.layout.proofs.RunBlocks.{on-card, on-card-within}
+use Rattle.layout.proofs.runs.Run.is_on_card.Needs as need
+
+pub returns-in-Some : need.returns-in-Some
+returns-in-Some c =
+    let start = c .args .self .start .0 in
+    let n = c .args .self .length in
+    let first = c .in-Some .ensures tt in
+    let same : c .from .result + c .from-in-Some .result ≡ rankOf start + n = omega (arith, first .rank) in
+    (
+      λ t. on-card start n (first .plain) (omega (arith, leb-true _ _ t)),
+      λ o. le-leb _ _ (omega (arith, on-card-within start n (first .plain) (omega arith) o)),
+    )

@@ -1,0 +1,5 @@
+pub mod Blocks
+pub mod Images
+pub mod Profiles
+pub mod Refusals
+pub mod Runs

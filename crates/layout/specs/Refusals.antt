@@ -1,0 +1,22 @@
+-- Which number each refusal has, and how one is made. Assumes nothing.
+use Prim.Native.Nat.{ℕ}
+use Rattle.std.specs.declared.result.Result.{Result}
+use Rattle.std.specs.declared.result.Result.the-variants.{Ok, Err}
+use Rattle.layout.specs.declared.refusals.Reason.{Reason}
+use Rattle.layout.specs.declared.refusals.Reason.the-variants.{ProfileLetter, GeneralPurposeByte, MadChecksum, ImageSize}
+use Rattle.layout.specs.declared.refusals.Refusal.{Refusal}
+
+-- the number that a clerk reads
+abbrev pub numberOf : Reason → ℕ
+numberOf ProfileLetter = 1
+numberOf GeneralPurposeByte = 3
+numberOf MadChecksum = 4
+numberOf ImageSize = 28
+
+-- a refusal at a place
+abbrev pub refusal : Reason → ℕ → Refusal
+refusal why at = record { reason = why; place = at }
+
+-- an answer that is such a refusal
+abbrev pub refuse : {X : Type 0} → Reason → ℕ → Result X Refusal
+refuse why at = Err (refusal why at)

@@ -1,0 +1,44 @@
+// Runs of data blocks.
+ghost use mathlib.Core.Path.{_≡_};
+ghost use Rattle.std.specs.Options.{mapped};
+ghost use Rattle.std.specs.Orderings.{Decides};
+ghost use Rattle.layout.specs.Blocks.{toBlock};
+ghost use Rattle.layout.specs.Runs.{runBlock, OnCard};
+use crate::numbers::Block;
+use crate::numbers::Rank;
+use crate::numbers::BlockDebug;
+use crate::numbers::BlockPartialEq;
+
+// A run: `length` data blocks of consecutive ranks, the first of them `start`. Trailers in between are passed over and not counted.
+#[derive(Clone, Copy, PartialEq, Eq, Debug)]
+pub struct Run {
+    pub start: Block,
+    pub length: u8,
+}
+
+// How many data blocks a card has: ranks go from 0 to 215.
+const DATA_BLOCKS: u16 = 216;
+
+impl Run {
+    // Block `i` of the run, counted from 0; none past its length or past the last rank, or if it starts at a trailer.
+    pub fn block(self, i: u8) -> Option<Block>
+        ensures { λ r. ⌜ r ≡ mapped toBlock (runBlock (self .start .0) (self .length) i) ⌝ }
+    {
+        if i >= self.length {
+            return None;
+        }
+        let first = self.start.rank()?;
+        let rank = first.0.checked_add(i)?;
+        Rank(rank).block()
+    }
+
+    // Whether the run starts at a data block and stays within the last rank.
+    pub fn is_on_card(self) -> bool
+        ensures { λ r. ⌜ Decides r (OnCard (self .start .0) (self .length)) ⌝ }
+    {
+        match self.start.rank() {
+            Some(first) => u16::from(first.0) + u16::from(self.length) <= DATA_BLOCKS,
+            None => false,
+        }
+    }
+}
