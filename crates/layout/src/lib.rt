@@ -1,12 +1,24 @@
 // The memory of a 4K citizen card: its blocks and sectors, runs of blocks, the five profiles, the two checksums, and why a card is refused.
 pub mod blocks;
+pub mod checksums;
+pub mod figures;
 pub mod images;
 pub mod numbers;
 pub mod profiles;
 pub mod refusals;
 pub mod runs;
 
+pub use checksums::ChecksumKind;
+pub use checksums::Crc8;
+pub use checksums::Crc8Kind;
+pub use checksums::Crc16;
+pub use checksums::Crc16Kind;
+pub use checksums::checksum;
+pub use figures::Figures;
+pub use figures::known_figures;
 pub use images::Image;
+pub use images::block_of;
+pub use images::image_of;
 pub use numbers::Block;
 pub use numbers::Rank;
 pub use numbers::Sector;

@@ -6,12 +6,12 @@ ghost use Rattle.std.specs.declared.option.Option.the-variants.{Some};
 ghost use Rattle.layout.specs.Profiles.{letterOf, profileOf, within, sectorsOf, nscpSectors, servicesSectors, madOf};
 ghost use Rattle.layout.specs.Refusals.{refusal};
 use crate::numbers::Block;
+use crate::numbers::BlockDebug;
+use crate::numbers::BlockPartialEq;
 use crate::numbers::Sector;
 use crate::refusals::Reason;
 use crate::refusals::Refusal;
 use crate::runs::Run;
-use crate::numbers::BlockDebug;
-use crate::numbers::BlockPartialEq;
 use crate::runs::RunDebug;
 use crate::runs::RunPartialEq;
 

@@ -27,10 +27,7 @@ impl Refusal {
     pub fn at(reason: Reason, place: usize) -> Refusal
         ensures { λ r. ⌜ r ≡ refusal reason place ⌝ }
     {
-        Refusal {
-            reason,
-            place,
-        }
+        Refusal { reason, place }
     }
 
     // The number that is printed.

@@ -5,9 +5,9 @@ ghost use Rattle.std.specs.Orderings.{Decides};
 ghost use Rattle.layout.specs.Blocks.{toBlock};
 ghost use Rattle.layout.specs.Runs.{runBlock, OnCard};
 use crate::numbers::Block;
-use crate::numbers::Rank;
 use crate::numbers::BlockDebug;
 use crate::numbers::BlockPartialEq;
+use crate::numbers::Rank;
 
 // A run: `length` data blocks of consecutive ranks, the first of them `start`. Trailers in between are passed over and not counted.
 #[derive(Clone, Copy, PartialEq, Eq, Debug)]

@@ -11,8 +11,7 @@ returns-in-Some c =
     let start = c .args .self .start .0 in
     let n = c .args .self .length in
     let first = c .in-Some .ensures tt in
-    let same : c .from .result + c .from-in-Some .result ≡ rankOf start + n = omega (arith, first .rank) in
-    (
+    let same : c .from .result + c .from-in-Some .result ≡ rankOf start + n = omega (arith, first .rank) in (
       λ t. on-card start n (first .plain) (omega (arith, leb-true _ _ t)),
       λ o. le-leb _ _ (omega (arith, on-card-within start n (first .plain) (omega arith) o)),
     )
