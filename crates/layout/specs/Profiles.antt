@@ -2,6 +2,7 @@
 use mathlib.Core.Bool.{Bool, true, false, cond, _&&_, _||_}
 use mathlib.Core.List.{List, [], _∷_}
 use Prim.Native.Nat.{ℕ}
+use lib.Chars.{codes}
 use lib.Dec.{eqb, leb}
 use Rattle.std.specs.declared.option.Option.{Option}
 use Rattle.std.specs.declared.option.Option.the-variants.{Some, None}
@@ -10,14 +11,15 @@ use Rattle.layout.specs.declared.profiles.Mad.{Mad}
 use Rattle.layout.specs.declared.profiles.Profile.{Profile}
 use Rattle.layout.specs.declared.profiles.Profile.the-variants.{A, B, C, D, E}
 
--- the ASCII code of a profile's letter
-abbrev pub letterOf : Profile → ℕ
-letterOf A = 0x41
-letterOf B = 0x42
-letterOf C = 0x43
-letterOf D = 0x44
-letterOf E = 0x45
+-- the letter of a profile
+abbrev pub letterOf : Profile → List ℕ
+letterOf A = codes "A"
+letterOf B = codes "B"
+letterOf C = codes "C"
+letterOf D = codes "D"
+letterOf E = codes "E"
 
+-- the profile of a letter by its ASCII code
 abbrev byLetter : ℕ → Option Profile
 byLetter x =
     cond (eqb x 0x41) (Some A) (cond (eqb x 0x42) (Some B) (cond (eqb x 0x43) (Some C) (cond (eqb x 0x44) (Some D) (cond (eqb x 0x45) (Some E) None))))

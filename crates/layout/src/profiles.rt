@@ -1,6 +1,5 @@
 // The five profiles of citizen cards.
 ghost use mathlib.Core.Path.{_≡_};
-ghost use mathlib.Core.List.{_∷_, []};
 ghost use Rattle.std.specs.Options.{okOr};
 ghost use Rattle.std.specs.declared.option.Option.the-variants.{Some};
 ghost use Rattle.layout.specs.Profiles.{letterOf, profileOf, within, sectorsOf, nscpSectors, servicesSectors, madOf};
@@ -49,16 +48,16 @@ impl Profile {
     }
 
     // The profile's letter.
-    pub fn letter(self) -> char
-        ensures value { λ r. ⌜ r ≡ letterOf self ⌝ }
-        ensures back { λ r. ⌜ profileOf (r ∷ []) ≡ Some self ⌝ }
+    pub fn letter(self) -> &'static str
+        ensures value { λ r. ⌜ now r ≡ letterOf self ⌝ }
+        ensures back { λ r. ⌜ profileOf (now r) ≡ Some self ⌝ }
     {
         match self {
-            Profile::A => 'A',
-            Profile::B => 'B',
-            Profile::C => 'C',
-            Profile::D => 'D',
-            Profile::E => 'E',
+            Profile::A => "A",
+            Profile::B => "B",
+            Profile::C => "C",
+            Profile::D => "D",
+            Profile::E => "E",
         }
     }
 
