@@ -1,7 +1,7 @@
 pub mod Below
 pub mod KnownFigures
 pub mod OneByte
-pub mod Ranks
+pub mod RankBlocks
 pub mod Rounds
 pub mod RunBlocks
 pub mod Sixteen

@@ -10,7 +10,7 @@ use Rattle.std.specs.Options.{isSome}
 use Rattle.std.specs.declared.option.Option.the-variants.{None}
 use Rattle.layout.specs.Blocks.{trailer, rankOf, dataBlock}
 use Rattle.layout.specs.Runs.{runBlock, OnCard}
-use Rattle.layout.proofs.Ranks.{past-block, block-there, rank-le}
+use Rattle.layout.proofs.RankBlocks.{past-block, block-there, rank-le}
 
 module _ (start n i : ℕ) where
   pub run-block-past : n ≤ i → runBlock start n i ≡ None

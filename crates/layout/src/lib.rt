@@ -5,8 +5,10 @@ pub mod figures;
 pub mod images;
 pub mod numbers;
 pub mod profiles;
+pub mod ranks;
 pub mod refusals;
 pub mod runs;
+pub mod sectors;
 
 pub use checksums::ChecksumKind;
 pub use checksums::Crc8;

@@ -90,8 +90,7 @@ impl Profile {
     {
         match self {
             Profile::B => matches!(sector.0, 1..=15 | 25..=31),
-            Profile::D => matches!(sector.0, 17..=31),
-            _ => matches!(sector.0, 1..=15),
+            _ => self.may_hold_nscp(sector),
         }
     }
 

@@ -2,7 +2,7 @@ use mathlib.Core.Path.{_≡_, sym, ap, subst, _∙_}
 use Prim.Native.Nat.{_-_}
 use native.Mathlib.Omega.{arith}
 use Rattle.layout.specs.Blocks.{rankOf, Ranked}
-use Rattle.layout.proofs.Ranks.{rank-is, from-block}
+use Rattle.layout.proofs.RankBlocks.{rank-is, from-block}
 use Rattle.layout.proofs.numbers.Block.rank.Needs as need
 
 pub returns : need.returns

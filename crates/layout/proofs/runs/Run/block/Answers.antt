@@ -3,7 +3,7 @@ use Prim.Native.Nat.{_+_, _≤_}
 use native.Mathlib.Omega.{arith}
 use Rattle.std.specs.Options.{mapped}
 use Rattle.layout.specs.Blocks.{rankOf, dataBlock, toBlock}
-use Rattle.layout.proofs.Ranks.{past-block}
+use Rattle.layout.proofs.RankBlocks.{past-block, ranked-block}
 use Rattle.layout.proofs.RunBlocks.{run-block-past, run-block-trailer, run-block-rank}
 use Rattle.layout.proofs.runs.Run.block.Needs as need
 
@@ -25,6 +25,6 @@ pub returns : need.returns
 returns c =
     let first = c .in-Continue-first .ensures tt in
     let same : c .in-Continue-rank .rank ≡ rankOf (c .args .self .start .0) + c .args .i = omega (arith, first .rank, c .in-Continue-rank .ensures tt .1) in
-    c .block .ensures .value
+    ranked-block _ _ (c .block .ensures)
     ∙ ap (λ k. mapped toBlock (dataBlock k)) same
     ∙ ap (mapped toBlock) (sym (run-block-rank _ _ _ (c .if-i-self .left) (first .plain)))

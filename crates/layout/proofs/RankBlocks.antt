@@ -1,15 +1,16 @@
 -- Ranks and data blocks, each rule from a test at every block. Assumes nothing.
-use mathlib.Core.Path.{_≡_, refl, subst}
+use mathlib.Core.Path.{_≡_, refl, sym, ap, subst}
 use mathlib.Core.Logic.{⊎-elim}
 use mathlib.Core.Bool.{Bool, true, false, not, _&&_, _||_}
 use Prim.Native.Nat.{ℕ, _+_, _-_, _/_, _<_, _≤_}
 use lib.Dec.{eqb, leb}
-use Rattle.std.specs.Options.{isSome}
+use Rattle.std.specs.Options.{isSome, mapped, Cases as BySome}
 use Rattle.std.proofs.shelf.Tests.{eqb-true, leb-true, and-parts, not-true, or-cases, both-ways}
 use Rattle.std.proofs.shelf.Maps.{nth-past}
 use Rattle.std.specs.declared.option.Option.{Option}
 use Rattle.std.specs.declared.option.Option.the-variants.{Some, None}
-use Rattle.layout.specs.Blocks.{rankOf, sectorOf, trailer, dataFrom, dataBlock, Ranked}
+use Rattle.layout.specs.Blocks.{rankOf, sectorOf, trailer, dataFrom, dataBlock, Ranked, toBlock}
+use Rattle.layout.specs.declared.numbers.Block.{Block}
 use Rattle.layout.proofs.Below.{below, at, same-at, some-at, holds, holds-some}
 
 -- one trailer for each sector below
@@ -69,3 +70,8 @@ block-there = at (λ k. isSome (dataBlock k)) 216 refl
 pub rank-le : (b : ℕ) → b < 256 → rankOf b ≤ 216
 unfolding rankOf
 rank-le b h = leb-true _ _ (at (λ j. leb (rankOf j) 216) 256 refl b h)
+
+-- an answer that is ranked is the definition's
+pub ranked-block : (k : ℕ) (o : Option Block) → BySome o (216 ≤ k) (λ b. Ranked (b .0) k) → o ≡ mapped toBlock (dataBlock k)
+ranked-block k None h = ap (mapped toBlock) (sym (past-block k h))
+ranked-block k (Some b) h = ap (mapped toBlock) (sym (h .block))
