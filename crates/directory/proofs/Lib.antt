@@ -1,1 +1,6 @@
+pub mod Filling
+pub mod Looking
+pub mod MadPlaces
+pub mod RunTouches
 pub mod Sealed
+pub mod SealedReads

@@ -1,2 +1,4 @@
 pub mod Judged
+pub mod Looks
+pub mod Reads
 pub mod Seals

@@ -4,4 +4,3 @@ pub mod OneByte
 pub mod RankBlocks
 pub mod Rounds
 pub mod RunBlocks
-pub mod Sixteen

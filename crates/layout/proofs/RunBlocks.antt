@@ -4,12 +4,12 @@ use mathlib.Core.Bool.{Bool, true, false, cond, not, _&&_}
 use mathlib.Core.Logic.{⊎-elim}
 use Prim.Native.Nat.{ℕ, _+_, _-_, _<_, _≤_}
 use native.Mathlib.Omega.{arith}
-use lib.Dec.{ltb}
+use lib.Dec.{ltb, leb}
 use Rattle.std.proofs.shelf.Tests.{lt-ltb, le-ltb, cond-true, cond-false, and-from, and-left, and-right, not-from-true, not-from-false, cases-lt, false≢true}
 use Rattle.std.specs.Options.{isSome}
 use Rattle.std.specs.declared.option.Option.the-variants.{None}
 use Rattle.layout.specs.Blocks.{trailer, rankOf, dataBlock}
-use Rattle.layout.specs.Runs.{runBlock, OnCard}
+use Rattle.layout.specs.Runs.{runBlock, onCard, OnCard}
 use Rattle.layout.proofs.RankBlocks.{past-block, block-there, rank-le}
 
 module _ (start n i : ℕ) where
@@ -38,3 +38,11 @@ module _ (start n : ℕ) (plain : trailer start ≡ false) where
     where
       missing : 1 ≤ n → 216 ≤ rankOf start + (n - 1) → false ≡ true
       missing some past = sym (ap isSome (run-block-rank start n (n - 1) (omega arith) plain ∙ past-block _ past)) ∙ o .each (n - 1) (omega arith)
+
+pub on-card-trailer : (start n : ℕ) → trailer start ≡ true → onCard start n ≡ false
+unfolding onCard
+on-card-trailer start n t = and-left (not (trailer start)) _ (not-from-true _ t)
+
+pub on-card-plain : (start n : ℕ) → trailer start ≡ false → onCard start n ≡ leb (rankOf start + n) 216
+unfolding onCard
+on-card-plain start n plain = ap (λ t. not t && leb (rankOf start + n) 216) plain

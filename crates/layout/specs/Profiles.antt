@@ -64,10 +64,10 @@ servicesSectors D = (17, 31) ∷ []
 servicesSectors E = (1, 15) ∷ []
 
 abbrev mad1 : Mad
-mad1 = record { blocks = record { start = toBlock 1; length = 2 }; trailer = toBlock 3; «general_purpose_byte» = 0xC1 }
+mad1 = record { run = record { start = toBlock 1; length = 2 }; trailer = toBlock 3; «general_purpose_byte» = 0xC1 }
 
 abbrev mad2 : Mad
-mad2 = record { blocks = record { start = toBlock 64; length = 3 }; trailer = toBlock 67; «general_purpose_byte» = 0xC2 }
+mad2 = record { run = record { start = toBlock 64; length = 3 }; trailer = toBlock 67; «general_purpose_byte» = 0xC2 }
 
 -- the application directory of a profile
 abbrev pub madOf : Profile → Mad

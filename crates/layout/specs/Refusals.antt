@@ -3,12 +3,13 @@ use Prim.Native.Nat.{ℕ}
 use Rattle.std.specs.declared.result.Result.{Result}
 use Rattle.std.specs.declared.result.Result.the-variants.{Ok, Err}
 use Rattle.layout.specs.declared.refusals.Reason.{Reason}
-use Rattle.layout.specs.declared.refusals.Reason.the-variants.{ProfileLetter, GeneralPurposeByte, MadChecksum, ImageSize}
+use Rattle.layout.specs.declared.refusals.Reason.the-variants.{ProfileLetter, CardGone, GeneralPurposeByte, MadChecksum, ImageSize}
 use Rattle.layout.specs.declared.refusals.Refusal.{Refusal}
 
 -- the number that a clerk reads
 abbrev pub numberOf : Reason → ℕ
 numberOf ProfileLetter = 1
+numberOf CardGone = 2
 numberOf GeneralPurposeByte = 3
 numberOf MadChecksum = 4
 numberOf ImageSize = 28

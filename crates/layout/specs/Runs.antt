@@ -1,8 +1,8 @@
 -- Runs: data blocks of consecutive ranks. Assumes nothing.
 use mathlib.Core.Path.{_≡_}
-use mathlib.Core.Bool.{true, false, cond, not, _&&_}
+use mathlib.Core.Bool.{Bool, true, false, cond, not, _&&_}
 use Prim.Native.Nat.{ℕ, _+_, _<_}
-use lib.Dec.{ltb}
+use lib.Dec.{ltb, leb}
 use Rattle.std.specs.Options.{isSome}
 use Rattle.std.specs.declared.option.Option.{Option}
 use Rattle.std.specs.declared.option.Option.the-variants.{None}
@@ -11,6 +11,10 @@ use Rattle.layout.specs.Blocks.{trailer, rankOf, dataBlock}
 -- block i, counted from 0, of the run of n blocks from start on: i ranks above the start
 unfoldable pub runBlock : ℕ → ℕ → ℕ → Option ℕ
 runBlock start n i = cond (ltb i n && not (trailer start)) (dataBlock (rankOf start + i)) None
+
+-- the run starts at a data block and stays within rank 215
+unfoldable pub onCard : ℕ → ℕ → Bool
+onCard start n = not (trailer start) && leb (rankOf start + n) 216
 
 -- the run starts at a data block, and each of its n blocks is on the card
 pub record OnCard (start n : ℕ) : Type 0 where

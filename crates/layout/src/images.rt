@@ -1,7 +1,6 @@
 // Card images: a card's 256 blocks as one string of bytes, block 0 first.
 ghost use mathlib.Core.Path.{_≡_};
-ghost use Rattle.layout.specs.Images.{blocksOf, imageOf};
-use crate::numbers::Block;
+ghost use Rattle.layout.specs.Images.{imageOf};
 use crate::refusals::Reason;
 use crate::refusals::Refusal;
 
@@ -16,14 +15,4 @@ pub fn image_of(bytes: &[u8]) -> Result<Image, Refusal>
         Ok(image) => Ok(image),
         Err(_) => Err(Refusal::at(Reason::ImageSize, 0)),
     }
-}
-
-// The sixteen bytes of a block.
-pub fn block_of(image: &Image, block: Block) -> [u8; 16]
-    ensures { λ r. ⌜ r ≡ blocksOf (now (image .entry)) (block .0) ⌝ }
-{
-    let start = 16 * usize::from(block.0);
-    let mut bytes = [0u8; 16];
-    bytes.copy_from_slice(&image[start..start + 16]);
-    bytes
 }

@@ -19,7 +19,6 @@ pub use checksums::checksum;
 pub use figures::Figures;
 pub use figures::known_figures;
 pub use images::Image;
-pub use images::block_of;
 pub use images::image_of;
 pub use numbers::Block;
 pub use numbers::Rank;

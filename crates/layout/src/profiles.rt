@@ -27,7 +27,7 @@ pub enum Profile {
 // A Mifare application directory, the MAD: its blocks, the trailer of its sector, and the general purpose byte there.
 #[derive(Clone, Copy, PartialEq, Eq, Debug)]
 pub struct Mad {
-    pub blocks: Run,
+    pub run: Run,
     pub trailer: Block,
     pub general_purpose_byte: u8,
 }
@@ -100,7 +100,7 @@ impl Profile {
     {
         match self {
             Profile::D => Mad {
-                blocks: Run {
+                run: Run {
                     start: Block(64),
                     length: 3,
                 },
@@ -108,7 +108,7 @@ impl Profile {
                 general_purpose_byte: 0xC2,
             },
             _ => Mad {
-                blocks: Run {
+                run: Run {
                     start: Block(1),
                     length: 2,
                 },

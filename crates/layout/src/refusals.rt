@@ -7,6 +7,8 @@ ghost use Rattle.layout.specs.Refusals.{numberOf, refusal};
 pub enum Reason {
     // the profile is not one capital letter from A to E
     ProfileLetter = 1,
+    // the card left the reader
+    CardGone = 2,
     // the trailer of the application directory has another general purpose byte
     GeneralPurposeByte = 3,
     // the application directory does not have the checksum that it begins with

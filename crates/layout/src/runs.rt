@@ -3,7 +3,7 @@ ghost use mathlib.Core.Path.{_≡_};
 ghost use Rattle.std.specs.Options.{mapped};
 ghost use Rattle.std.specs.Orderings.{Decides};
 ghost use Rattle.layout.specs.Blocks.{toBlock};
-ghost use Rattle.layout.specs.Runs.{runBlock, OnCard};
+ghost use Rattle.layout.specs.Runs.{runBlock, onCard, OnCard};
 use crate::numbers::Block;
 use crate::numbers::BlockDebug;
 use crate::numbers::BlockPartialEq;
@@ -34,7 +34,8 @@ impl Run {
 
     // Whether the run starts at a data block and stays within the last rank.
     pub fn is_on_card(self) -> bool
-        ensures { λ r. ⌜ Decides r (OnCard (self .start .0) (self .length)) ⌝ }
+        ensures value { λ r. ⌜ r ≡ onCard (self .start .0) (self .length) ⌝ }
+        ensures each { λ r. ⌜ Decides r (OnCard (self .start .0) (self .length)) ⌝ }
     {
         match self.start.rank() {
             Some(first) => u16::from(first.0) + u16::from(self.length) <= DATA_BLOCKS,

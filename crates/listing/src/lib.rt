@@ -2,8 +2,11 @@
 ghost use mathlib.Core.Path.{_≡_};
 ghost use Rattle.std.specs.Of.String.{string-bytes};
 ghost use Rattle.std.specs.Vec.{made};
-ghost use Rattle.listing.specs.Records.{listed, accepted, profileLine, refusedLine, cardRecord, recordOf};
-use directory::judge_image;
+ghost use Rattle.listing.specs.Records.{judgedImage, listed, accepted, profileLine, refusedLine, cardRecord, recordOf};
+use card::ImageCard;
+use card::ImageCardCard;
+use directory::read_mad;
+use layout::Image;
 use layout::Profile;
 use layout::Refusal;
 use layout::image_of;
@@ -21,12 +24,21 @@ pub struct Listing {
 pub fn list(letter: &str, bytes: &[u8]) -> Result<Listing, Refusal>
     ensures { λ r. ⌜ r ≡ listed (now (letter .entry)) (now (bytes .entry)) ⌝ }
 {
-    let image = image_of(bytes)?;
+    let mut image = image_of(bytes)?;
     let profile = Profile::from_letter(letter)?;
-    Ok(Listing {
-        profile,
-        judged: judge_image(profile, &image),
-    })
+    let judged = judge(&mut image, profile);
+    Ok(Listing { profile, judged })
+}
+
+// Judges the card in an image, as far as its application directory.
+fn judge(image: &mut Image, profile: Profile) -> Result<(), Refusal>
+    ensures { λ r. ⌜ r ≡ judgedImage profile (now (image .entry)) ⌝ }
+{
+    let mut card = ImageCard::new(image);
+    match read_mad(&mut card, profile) {
+        Ok(_) => Ok(()),
+        Err(refusal) => Err(refusal),
+    }
 }
 
 // Whether nothing is refused: neither the input nor the card.
