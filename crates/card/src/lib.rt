@@ -14,3 +14,6 @@ pub use tear::Phase;
 pub use tear::Plan;
 pub use tear::TearCard;
 pub use tear::Torn;
+
+#[cfg(test)]
+mod tests;

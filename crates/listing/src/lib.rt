@@ -84,3 +84,6 @@ fn refused_line(heap: Global, number: u8) -> Result<String, AllocError>
 {
     format!(heap, "refused {number}\n")
 }
+
+#[cfg(test)]
+mod tests;
