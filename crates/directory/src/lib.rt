@@ -1,8 +1,17 @@
 // Directories of a citizen card, and how a card is judged by them.
+pub mod entries;
 pub mod judge;
 pub mod reading;
 pub mod seal;
 
+pub use entries::Aid;
+pub use entries::AidEntry;
+pub use entries::Entry;
+pub use entries::Item;
+pub use entries::ItemEntry;
+pub use entries::Slot;
+pub use entries::SlotEntry;
+pub use entries::entry_of;
 pub use judge::judge_trailer;
 pub use judge::read_mad;
 pub use reading::read_block;
