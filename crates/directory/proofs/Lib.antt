@@ -4,4 +4,5 @@ pub mod MadPlaces
 pub mod ReadEntries
 pub mod RunTouches
 pub mod Sealed
+pub mod Searching
 pub mod SealedReads

@@ -1,5 +1,7 @@
 pub mod Entries
 pub mod Judged
 pub mod Looks
+pub mod Nscp
 pub mod Reads
+pub mod Searches
 pub mod Seals

@@ -1,6 +1,7 @@
 // Directories of a citizen card, and how a card is judged by them.
 pub mod entries;
 pub mod judge;
+pub mod nscp;
 pub mod reading;
 pub mod seal;
 

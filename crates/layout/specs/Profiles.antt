@@ -6,7 +6,7 @@ use lib.Chars.{codes}
 use lib.Dec.{eqb, leb}
 use Rattle.std.specs.declared.option.Option.{Option}
 use Rattle.std.specs.declared.option.Option.the-variants.{Some, None}
-use Rattle.layout.specs.Blocks.{toBlock}
+use Rattle.layout.specs.Blocks.{toBlock, toSector}
 use Rattle.layout.specs.declared.profiles.Mad.{Mad}
 use Rattle.layout.specs.declared.profiles.Profile.{Profile}
 use Rattle.layout.specs.declared.profiles.Profile.the-variants.{A, B, C, D, E}
@@ -64,10 +64,10 @@ servicesSectors D = (17, 31) ∷ []
 servicesSectors E = (1, 15) ∷ []
 
 abbrev mad1 : Mad
-mad1 = record { run = record { start = toBlock 1; length = 2 }; trailer = toBlock 3; «general_purpose_byte» = 0xC1 }
+mad1 = record { run = record { start = toBlock 1; length = 2 }; trailer = toBlock 3; «general_purpose_byte» = 0xC1; «first_listed» = toSector 1; listed = 15 }
 
 abbrev mad2 : Mad
-mad2 = record { run = record { start = toBlock 64; length = 3 }; trailer = toBlock 67; «general_purpose_byte» = 0xC2 }
+mad2 = record { run = record { start = toBlock 64; length = 3 }; trailer = toBlock 67; «general_purpose_byte» = 0xC2; «first_listed» = toSector 17; listed = 23 }
 
 -- the application directory of a profile
 abbrev pub madOf : Profile → Mad

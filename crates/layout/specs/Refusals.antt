@@ -3,7 +3,7 @@ use Prim.Native.Nat.{ℕ}
 use Rattle.std.specs.declared.result.Result.{Result}
 use Rattle.std.specs.declared.result.Result.the-variants.{Ok, Err}
 use Rattle.layout.specs.declared.refusals.Reason.{Reason}
-use Rattle.layout.specs.declared.refusals.Reason.the-variants.{ProfileLetter, CardGone, GeneralPurposeByte, MadChecksum, ImageSize}
+use Rattle.layout.specs.declared.refusals.Reason.the-variants.{ProfileLetter, CardGone, GeneralPurposeByte, MadChecksum, NscpSector, NscpChecksum, NscpItem, ServicesSector, ServicesChecksum, ServicesSlot, ImageSize}
 use Rattle.layout.specs.declared.refusals.Refusal.{Refusal}
 
 -- the number that a clerk reads
@@ -12,6 +12,12 @@ numberOf ProfileLetter = 1
 numberOf CardGone = 2
 numberOf GeneralPurposeByte = 3
 numberOf MadChecksum = 4
+numberOf NscpSector = 5
+numberOf NscpChecksum = 6
+numberOf NscpItem = 7
+numberOf ServicesSector = 8
+numberOf ServicesChecksum = 9
+numberOf ServicesSlot = 10
 numberOf ImageSize = 28
 
 -- a refusal at a place

@@ -8,6 +8,8 @@ use crate::numbers::Block;
 use crate::numbers::BlockDebug;
 use crate::numbers::BlockPartialEq;
 use crate::numbers::Sector;
+use crate::numbers::SectorDebug;
+use crate::numbers::SectorPartialEq;
 use crate::refusals::Reason;
 use crate::refusals::Refusal;
 use crate::runs::Run;
@@ -24,12 +26,14 @@ pub enum Profile {
     E,
 }
 
-// A Mifare application directory, the MAD: its blocks, the trailer of its sector, and the general purpose byte there.
+// A Mifare application directory, the MAD: its blocks, the trailer of its sector, the general purpose byte there, and the sectors that it lists.
 #[derive(Clone, Copy, PartialEq, Eq, Debug)]
 pub struct Mad {
     pub run: Run,
     pub trailer: Block,
     pub general_purpose_byte: u8,
+    pub first_listed: Sector,
+    pub listed: u8,
 }
 
 impl Profile {
@@ -106,6 +110,8 @@ impl Profile {
                 },
                 trailer: Block(67),
                 general_purpose_byte: 0xC2,
+                first_listed: Sector(17),
+                listed: 23,
             },
             _ => Mad {
                 run: Run {
@@ -114,6 +120,8 @@ impl Profile {
                 },
                 trailer: Block(3),
                 general_purpose_byte: 0xC1,
+                first_listed: Sector(1),
+                listed: 15,
             },
         }
     }

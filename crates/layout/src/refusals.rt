@@ -13,6 +13,18 @@ pub enum Reason {
     GeneralPurposeByte = 3,
     // the application directory does not have the checksum that it begins with
     MadChecksum = 4,
+    // no sector, or more than one, carries the NSCP directory, or it may not stand there
+    NscpSector = 5,
+    // the NSCP directory does not have the checksum that it begins with
+    NscpChecksum = 6,
+    // the NSCP directory's header or an item of it is wrong
+    NscpItem = 7,
+    // the services directory is not named, or may not stand where it is
+    ServicesSector = 8,
+    // the services directory does not have the checksum that it begins with
+    ServicesChecksum = 9,
+    // the services directory's header or a slot of it is wrong
+    ServicesSlot = 10,
     // an image is not 4,096 bytes long
     ImageSize = 28,
 }
