@@ -4,6 +4,7 @@ pub mod judge;
 pub mod nscp;
 pub mod reading;
 pub mod seal;
+pub mod services;
 
 pub use entries::Aid;
 pub use entries::AidEntry;

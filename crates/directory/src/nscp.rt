@@ -17,7 +17,7 @@ use layout::Sector;
 const NSCP: u16 = 0x4011;
 
 // How many items the directory has room for.
-const ITEMS: u8 = 23;
+pub(crate) const ITEMS: u8 = 23;
 
 // The one sector that the application directory lists as the NSCP's, if it may stand there.
 pub fn nscp_sector(profile: Profile, mad: &[u8; 48]) -> Result<Sector, Refusal>
@@ -113,7 +113,7 @@ fn has_tag(nscp: &[u8; 48], n: u8, tag: u8) -> bool
     false
 }
 
-fn is_tagged(nscp: &[u8; 48], i: u8, tag: u8) -> bool
+pub(crate) fn is_tagged(nscp: &[u8; 48], i: u8, tag: u8) -> bool
     ensures { λ r. ⌜ r ≡ tagIs tag (itemAt (now (nscp .entry)) i) ⌝ }
 {
     match entry_of::<Item>(nscp, i) {
