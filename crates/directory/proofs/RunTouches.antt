@@ -1,5 +1,5 @@
 -- The blocks that a run names. Assumes nothing.
-use mathlib.Core.Path.{_≡_, sym, ap, _∙_}
+use mathlib.Core.Path.{_≡_, refl, sym, ap, _∙_}
 use Prim.Native.Nat.{ℕ, _<_}
 use native.Mathlib.Nat.{zero-add}
 use native.Mathlib.Omega.{arith}
@@ -30,3 +30,7 @@ nth-touches start n i t h e =
 pub mapped-some : (o : Option ℕ) (b : Block) → mapped toBlock o ≡ Some b → o ≡ Some (b .0)
 mapped-some None b e = let z : _≡_ {A = ℕ} 0 1 = cc in absurd (omega arith)
 mapped-some (Some x) b e = let same : toBlock x ≡ b = cc in ap (λ c. Some (c .0)) same
+
+pub mapped-none : (o : Option ℕ) → mapped toBlock o ≡ None → o ≡ None
+mapped-none None e = refl
+mapped-none (Some x) e = let z : _≡_ {A = ℕ} 0 1 = cc in absurd (omega arith)

@@ -3,6 +3,7 @@ pub mod Judged
 pub mod Looks
 pub mod Nscp
 pub mod Reads
+pub mod Slots
 pub mod Services
 pub mod Searches
 pub mod Seals

@@ -1,10 +1,12 @@
 // Directories of a citizen card, and how a card is judged by them.
+pub mod accepted;
 pub mod entries;
 pub mod judge;
 pub mod nscp;
 pub mod reading;
 pub mod seal;
 pub mod services;
+pub mod slots;
 
 pub use entries::Aid;
 pub use entries::AidEntry;

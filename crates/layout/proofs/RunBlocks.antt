@@ -9,7 +9,7 @@ use Rattle.std.proofs.shelf.Tests.{lt-ltb, le-ltb, cond-true, cond-false, and-f
 use Rattle.std.specs.Options.{isSome}
 use Rattle.std.specs.declared.option.Option.the-variants.{None}
 use Rattle.layout.specs.Blocks.{trailer, rankOf, dataBlock}
-use Rattle.layout.specs.Runs.{runBlock, onCard, OnCard}
+use Rattle.layout.specs.Runs.{runBlock, onCard, OnCard, runsMeet}
 use Rattle.layout.proofs.RankBlocks.{past-block, block-there, rank-le}
 
 module _ (start n i : ℕ) where
@@ -46,3 +46,16 @@ on-card-trailer start n t = and-left (not (trailer start)) _ (not-from-true _ t)
 pub on-card-plain : (start n : ℕ) → trailer start ≡ false → onCard start n ≡ leb (rankOf start + n) 216
 unfolding onCard
 on-card-plain start n plain = ap (λ t. not t && leb (rankOf start + n) 216) plain
+
+module _ (a m b n : ℕ) where
+  pub meet-plain : trailer a ≡ false → trailer b ≡ false → runsMeet a m b n ≡ (ltb (rankOf a) (rankOf b + n) && ltb (rankOf b) (rankOf a + m))
+  unfolding runsMeet
+  meet-plain p q = simp (p, q) refl
+
+  pub meet-left : trailer a ≡ true → runsMeet a m b n ≡ false
+  unfolding runsMeet
+  meet-left p = simp p refl
+
+  pub meet-right : trailer a ≡ false → trailer b ≡ true → runsMeet a m b n ≡ false
+  unfolding runsMeet
+  meet-right p q = simp (p, q) refl

@@ -20,3 +20,7 @@ onCard start n = not (trailer start) && leb (rankOf start + n) 216
 pub record OnCard (start n : ℕ) : Type 0 where
   pub starts : trailer start ≡ false
   pub each : (i : ℕ) → i < n → isSome (runBlock start n i) ≡ true
+
+-- two runs that start at data blocks have a rank in common
+unfoldable pub runsMeet : ℕ → ℕ → ℕ → ℕ → Bool
+runsMeet a m b n = not (trailer a) && not (trailer b) && ltb (rankOf a) (rankOf b + n) && ltb (rankOf b) (rankOf a + m)

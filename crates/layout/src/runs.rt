@@ -1,9 +1,12 @@
 // Runs of data blocks.
 ghost use mathlib.Core.Path.{_≡_};
+ghost use mathlib.Core.Bool.{_&&_};
+ghost use Prim.Native.Nat.{_+_};
+ghost use lib.Dec.{ltb};
 ghost use Rattle.std.specs.Options.{mapped};
 ghost use Rattle.std.specs.Orderings.{Decides};
 ghost use Rattle.layout.specs.Blocks.{toBlock};
-ghost use Rattle.layout.specs.Runs.{runBlock, onCard, OnCard};
+ghost use Rattle.layout.specs.Runs.{runBlock, onCard, OnCard, runsMeet};
 use crate::numbers::Block;
 use crate::numbers::BlockDebug;
 use crate::numbers::BlockPartialEq;
@@ -42,4 +45,23 @@ impl Run {
             None => false,
         }
     }
+
+    // Whether the two runs have a rank in common.
+    pub fn meets(self, other: Run) -> bool
+        ensures { λ r. ⌜ r ≡ runsMeet (self .start .0) (self .length) (other .start .0) (other .length) ⌝ }
+    {
+        let Some(a) = self.start.rank() else {
+            return false;
+        };
+        let Some(b) = other.start.rank() else {
+            return false;
+        };
+        meet(a, self.length, b, other.length)
+    }
+}
+
+fn meet(a: Rank, m: u8, b: Rank, n: u8) -> bool
+    ensures { λ r. ⌜ r ≡ (ltb (a .0) (b .0 + n) && ltb (b .0) (a .0 + m)) ⌝ }
+{
+    (a.0 as u16) < b.0 as u16 + n as u16 && (b.0 as u16) < a.0 as u16 + m as u16
 }
