@@ -1,3 +1,4 @@
+pub mod DirectoryPlaces
 pub mod Filling
 pub mod Looking
 pub mod MadPlaces

@@ -106,6 +106,10 @@ module _ {X Y : Type 0} (l : Look X) (next : X → Look Y) where
         is = v .is ∙ ap (λ o. o && not (isSome (lostAt (next x) (v .stay)))) level ∙ ap (λ o. on && not (isSome o)) (sym lost);
       }
 
+-- nothing was read of a card of any kind
+pub taken-none : {C X : Type 0} (blocks : C → Blocks) (present : C → Bool) (steady : C → Type 0) (r : Answer X) (card : C) → Taken blocks present steady (λ _. judged r) card card r
+taken-none blocks present steady r card = record { looked = looked-none r (blocks card) (present card); firm = λ s. (refl, s) }
+
 -- the same of looks at a card of any kind
 module _ {C X Y : Type 0} (blocks : C → Blocks) (present : C → Bool) (steady : C → Type 0) (l : Blocks → Look X) where
   -- a judgement of what a look has shown

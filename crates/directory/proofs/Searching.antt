@@ -6,10 +6,15 @@ use Prim.Native.Nat.{ℕ, zero, suc, _+_, _<_, _≤_}
 use native.Mathlib.Nat.{not-suc-le-zero, le-of-suc-le-suc}
 use native.Mathlib.Numerals.{add-one}
 use native.Mathlib.Omega.{arith}
-use Rattle.std.proofs.shelf.Tests.{cases-lt, cases-eq, or-right, or-left}
+use Rattle.std.proofs.shelf.Tests.{cases-bool, cases-eq, or-right, or-left}
 use Rattle.std.specs.declared.option.Option.{Option}
 use Rattle.std.specs.declared.option.Option.the-variants.{Some, None}
-use Rattle.directory.specs.Searches.{anyOf, countOf, lastOf, lowestOf}
+use Rattle.directory.specs.Searches.{anyOf, countOf, lastOf, orElse, lowestOf}
+
+or-none : (o : Option ℕ) (b : Bool) (n : ℕ) → orElse o (cond b (Some n) None) ≡ None → (o ≡ None) × (b ≡ false)
+or-none (Some i) b n e = let z : _≡_ {A = ℕ} 0 1 = cc in absurd (omega arith)
+or-none None true n e = let z : _≡_ {A = ℕ} 0 1 = cc in absurd (omega arith)
+or-none None false n e = (refl, refl)
 
 module _ (f : ℕ → Bool) where
   pub any-none : anyOf f 0 ≡ false
@@ -67,3 +72,28 @@ module _ (f : ℕ → Bool) where
       (λ e. let here : f n ≡ true = ap f (sym e) ∙ t in let before : lowestOf f n ≡ None = ap (lowestOf f) (sym e) ∙ none in simp (before, here) (ap Some (sym e)))
       (λ ne. let found = lowest-here n i (omega arith) none t in simp found refl)
       (cases-eq i n)
+
+  -- what a search that found nothing has passed over
+  pub lowest-all : (n : ℕ) → lowestOf f n ≡ None → (i : ℕ) → i < n → f i ≡ false
+  unfolding lowestOf
+  lowest-all zero none i h = absurd (not-suc-le-zero h)
+  lowest-all (suc n) none i h =
+      let p = or-none (lowestOf f n) (f n) n none in
+      ⊎-elim (λ e. ap f e ∙ p .1) (λ ne. lowest-all n (p .0) i (omega arith)) (cases-eq i n)
+
+  -- what a search found is a place that passes
+  pub lowest-some : (n i : ℕ) → lowestOf f n ≡ Some i → (i < n) × (f i ≡ true)
+  unfolding lowestOf
+  lowest-some zero i e = let z : _≡_ {A = ℕ} 0 1 = cc in absurd (omega arith)
+  lowest-some (suc n) i e = some-of (λ j. lowest-some n j) (lowestOf f n) refl e
+    where
+      some-of : ((j : ℕ) → lowestOf f n ≡ Some j → (j < n) × (f j ≡ true)) → (o : Option ℕ) → lowestOf f n ≡ o → orElse o (cond (f n) (Some n) None) ≡ Some i → (i < suc n) × (f i ≡ true)
+      some-of back (Some j) is found =
+          let same : j ≡ i = cc in
+          let p = back j is in
+          (omega (arith, p .0), ap f (sym same) ∙ p .1)
+      some-of back None is found = here (f n) refl found
+        where
+          here : (b : Bool) → f n ≡ b → cond b (Some n) None ≡ Some i → (i < suc n) × (f i ≡ true)
+          here true is found = let same : n ≡ i = cc in (omega arith, ap f (sym same) ∙ is)
+          here false is found = let z : _≡_ {A = ℕ} 0 1 = cc in absurd (omega arith)

@@ -1,3 +1,4 @@
+pub mod Checks
 pub mod Entries
 pub mod Judged
 pub mod Looks

@@ -19,7 +19,8 @@ unfoldable pub lastOf : (ℕ → Bool) → ℕ → ℕ
 lastOf f zero = 0
 lastOf f (suc n) = cond (f n) n (lastOf f n)
 
-abbrev orElse : Option ℕ → Option ℕ → Option ℕ
+-- the first of two that is there
+abbrev pub orElse : Option ℕ → Option ℕ → Option ℕ
 orElse (Some i) o = Some i
 orElse None o = o
 

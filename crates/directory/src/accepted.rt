@@ -13,3 +13,10 @@ pub struct Directory {
     pub services_block: Block,
     pub services: [u8; 48],
 }
+
+// The NSCP directory as it was read, and its sector.
+#[derive(Clone, Copy)]
+pub struct Nscp {
+    pub sector: Sector,
+    pub bytes: [u8; 48],
+}

@@ -44,7 +44,11 @@ fn read_trailer<C: Card>(card: &mut C, profile: Profile) -> Result<(), Refusal>
 }
 
 // Reads a directory of at most three blocks, and refuses one that does not have its seal.
-fn read_sealed<C: Card>(card: &mut C, run: Run, reason: Reason) -> Result<[u8; 48], Refusal>
+pub(crate) fn read_sealed<C: Card>(
+    card: &mut C,
+    run: Run,
+    reason: Reason,
+) -> Result<[u8; 48], Refusal>
     requires run { ⌜ onCard (run .start .0) (run .length) ≡ true ⌝ }
     requires few { ⌜ run .length ≤ 3 ⌝ }
     ensures { λ r. ⌜ Taken blocks present steady (sealedLook reason (run .start .0) (run .length)) (now (card .entry)) (now (card .exit)) r ⌝ }

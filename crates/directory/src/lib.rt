@@ -1,5 +1,6 @@
 // Directories of a citizen card, and how a card is judged by them.
 pub mod accepted;
+pub mod check;
 pub mod entries;
 pub mod judge;
 pub mod nscp;
