@@ -82,6 +82,7 @@ items-right nscp e = clear (eqb (getD nscp 1 0) 0) e
     none : (o : Option ℕ) → firstItemJudged o ≡ Ok tt → o ≡ None
     none None e = refl
     none (Some i) e = let z : _≡_ {A = ℕ} 0 1 = cc in absurd (omega arith)
+
     clear : (b : Bool) → cond b (firstItemJudged (lowestOf (wrongItem nscp) 23)) (refuse NscpItem 0) ≡ Ok tt → lowestOf (wrongItem nscp) 23 ≡ None
     clear true e = none _ e
     clear false e = let z : _≡_ {A = ℕ} 0 1 = cc in absurd (omega arith)
@@ -104,6 +105,7 @@ services-on-card p mad s nscp at judged e = by-place (lowestOf (λ i. tagIs 0xCF
         let plain = item-plain nscp i it is (lowest-all (wrongItem nscp) 23 (items-right nscp judged) i h) in
         let small = services-small p _ (not-false _ (or-parts _ _ (or-parts _ _ (or-parts _ _ (k .0) .0) .0) .0)) in
         subst (λ b. onCard (b .0) 3 ≡ true) (k .1) (block-on-card (it .block .0) (low-block (it .block .0) small) plain)
+
     by-place : (o : Option ℕ) → lowestOf (λ i. tagIs 0xCF (itemAt nscp i)) 23 ≡ o → servicesAt p mad s nscp (itemFound nscp o) ≡ Ok at → onCard (at .0) 3 ≡ true
     by-place None is e = let z : _≡_ {A = ℕ} 0 1 = cc in absurd (omega arith)
     by-place (Some i) is e = by-item i (lowest-some (λ j. tagIs 0xCF (itemAt nscp j)) 23 i is .0) (itemAt nscp i) refl e

@@ -15,7 +15,7 @@ use Rattle.layout.specs.declared.refusals.Reason.the-variants.{ServicesSlot}
 use Rattle.directory.specs.Entries.{itemAt, slotAt}
 use Rattle.directory.specs.Looks.{Answer}
 use Rattle.directory.specs.Nscp.{namesSector}
-use Rattle.directory.specs.Searches.{anyOf, lowestOf}
+use Rattle.directory.specs.Searches.{anyOf, countOf, lowestOf}
 use Rattle.directory.specs.Services.{listedOtherwise}
 use Rattle.directory.specs.declared.accepted.Directory.{Directory}
 use Rattle.directory.specs.declared.entries.Item.{Item}
@@ -88,3 +88,16 @@ headerClear services = eqb (getD services 1 0) 0 && eqb (getD services 2 0) 0 &&
 abbrev pub slotsJudged : Directory → Answer (Unit {0})
 slotsJudged d =
     cond (headerClear (d .services)) (firstSlotJudged (lower (lowestOf (wrongSlot d) 11) (lowestOf (sharesEarlier (d .services)) 11))) (refuse ServicesSlot 0)
+
+-- the entry is a slot whose run has the block
+abbrev pub holdsBlock : ℕ → Option Slot → Bool
+holdsBlock b None = false
+holdsBlock b (Some s) = runsMeet (s .run .start .0) (s .run .length) b 1
+
+-- a service block in no slot's run
+unfoldable pub freeBlock : Directory → ℕ → Bool
+freeBlock d b = serviceBlock d b && not (anyOf (λ i. holdsBlock b (slotAt (d .services) i)) 11)
+
+-- how many there are
+abbrev pub freeBlocks : Directory → ℕ
+freeBlocks d = countOf (freeBlock d) 256

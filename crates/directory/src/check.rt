@@ -19,7 +19,7 @@ use layout::Refusal;
 use layout::Run;
 
 // Reads the directories of a card, each block once and in order, and judges each part before the next is read.
-pub fn check<C: Card>(card: &mut C, profile: Profile) -> Result<Directory, Refusal>
+pub fn check_card<C: Card>(card: &mut C, profile: Profile) -> Result<Directory, Refusal>
     ensures { λ r. ⌜ Taken blocks present steady (checkLook profile) (now (card .entry)) (now (card .exit)) r ⌝ }
 {
     let mad = read_mad(card, profile)?;

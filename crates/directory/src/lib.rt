@@ -2,6 +2,7 @@
 pub mod accepted;
 pub mod check;
 pub mod entries;
+pub mod free;
 pub mod judge;
 pub mod nscp;
 pub mod reading;
@@ -9,6 +10,8 @@ pub mod seal;
 pub mod services;
 pub mod slots;
 
+pub use accepted::Directory;
+pub use check::check_card;
 pub use entries::Aid;
 pub use entries::AidEntry;
 pub use entries::Entry;
@@ -22,3 +25,4 @@ pub use judge::read_mad;
 pub use reading::read_block;
 pub use reading::read_run;
 pub use seal::is_sealed;
+pub use slots::SLOTS;

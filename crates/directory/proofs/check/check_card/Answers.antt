@@ -3,7 +3,7 @@ use Rattle.std.proofs.shelf.Results.{err-from-errBy}
 use Rattle.directory.specs.Checks.{nscpLook, servicesLook, restLook, checkLook}
 use Rattle.directory.specs.Judged.{madLook}
 use Rattle.directory.proofs.Looking.{taken-stop, taken-then}
-use Rattle.directory.proofs.check.check.Needs as need
+use Rattle.directory.proofs.check.check_card.Needs as need
 
 pub returns-in-Break-mad : need.returns-in-Break-mad
 unfolding checkLook
