@@ -36,8 +36,8 @@ fn check_record(rt: LibcRuntime, letter: &str, bytes: &[u8], expected: &str) -> 
 fn records(rt: LibcRuntime) -> Result<(), Fail> {
     let card = sample();
     check(is_accepted(&list("A", &card)))?;
-    check_record(rt, "A", &card, "profile A\n")?;
-    check_record(rt, "E", &card, "profile E\n")?;
+    check_record(rt, "A", &card, "profile A\n1234 0C 01\nfree 38\n")?;
+    check_record(rt, "E", &card, "profile E\n1234 0C 01\nfree 98\n")?;
     check_record(rt, "D", &card, "profile D\nrefused 3\n")?;
     check_record(rt, "F", &card, "refused 1\n")?;
     check_record(rt, "a", &card, "refused 1\n")?;
