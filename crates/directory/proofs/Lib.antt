@@ -1,5 +1,6 @@
 pub mod DirectoryPlaces
 pub mod Filling
+pub mod KnownFigures
 pub mod Looking
 pub mod MadPlaces
 pub mod ReadEntries

@@ -1,5 +1,6 @@
 pub mod Checks
 pub mod Entries
+pub mod Figures
 pub mod Judged
 pub mod Looks
 pub mod Nscp

@@ -2,6 +2,7 @@
 pub mod accepted;
 pub mod check;
 pub mod entries;
+pub mod figures;
 pub mod free;
 pub mod judge;
 pub mod nscp;
