@@ -2,7 +2,10 @@
 use crate::is_accepted;
 use crate::list;
 use crate::record_of;
+use layout::Crc8;
+use layout::Crc8Kind;
 use layout::Image;
+use layout::checksum;
 use std::test::*;
 
 // A card of profile A with one service: block 1 and 2 the MAD, block 3 its trailer, block 4 the NSCP directory, block 8 the services directory, block 12 the service.
@@ -49,4 +52,134 @@ fn records(rt: LibcRuntime) -> Result<(), Fail> {
     wrong[47] = 0x41;
     check(!is_accepted(&list("A", &wrong)))?;
     check_record(rt, "A", &wrong, "profile A\nrefused 4\n")
+}
+
+// Gives a directory the seal of its bytes.
+fn reseal(image: &mut Image, first: u8, blocks: u8) {
+    let start = 16 * first as usize;
+    let end = start + 16 * blocks as usize;
+    if start < end && end <= 4096 {
+        image[start] = checksum::<Crc8>(&image[start + 1..end]);
+    }
+}
+
+fn edit(image: &mut Image, edits: &[(u16, u8)]) {
+    for (at, value) in edits {
+        if *at < 4096 {
+            image[*at as usize] = *value;
+        }
+    }
+}
+
+// The sample card with some bytes changed and its directories sealed again.
+fn altered(edits: &[(u16, u8)]) -> Image {
+    let mut image = sample();
+    edit(&mut image, edits);
+    reseal(&mut image, 1, 2);
+    reseal(&mut image, 4, 3);
+    reseal(&mut image, 8, 3);
+    image
+}
+
+// The sample card with some bytes changed and no seal renewed.
+fn broken(edits: &[(u16, u8)]) -> Image {
+    let mut image = sample();
+    edit(&mut image, edits);
+    image
+}
+
+// A card of profile D: MAD2 in blocks 64 to 66, NSCP in sector 17, services in sector 18.
+fn sample_d(edits: &[(u16, u8)]) -> Image {
+    let mut image = [0u8; 4096];
+    for i in 1026..1072usize {
+        image[i] = if i % 2 == 0 { 0x12 } else { 0x40 };
+    }
+    image[1026] = 0x11;
+    image[1081] = 0xC2;
+    image[1090] = 0xCF;
+    image[1091] = 72;
+    edit(&mut image, edits);
+    reseal(&mut image, 64, 3);
+    reseal(&mut image, 68, 3);
+    reseal(&mut image, 72, 3);
+    image
+}
+
+// The number and the place of the refusal; zeros where there is none.
+fn refused(letter: &str, image: &Image) -> (u8, usize) {
+    match list(letter, image) {
+        Ok(listing) => match listing.verdict {
+            Ok(_) => (0, 0),
+            Err(refusal) => (refusal.number(), refusal.place),
+        },
+        Err(refusal) => (refusal.number(), refusal.place),
+    }
+}
+
+#[test]
+fn application_directory() -> Result<(), Fail> {
+    check_eq(refused("A", &altered(&[])), (0, 0))?;
+    check_eq(refused("D", &sample_d(&[])), (0, 0))?;
+    check_eq(refused("A", &broken(&[(57, 0xC2)])), (3, 3))?;
+    check_eq(refused("D", &sample_d(&[(1081, 0xC1)])), (3, 67))?;
+    check_eq(refused("A", &broken(&[(17, 1)])), (4, 1))?;
+    check_eq(refused("A", &altered(&[(18, 0x12)])), (5, 0))?;
+    check_eq(refused("A", &altered(&[(20, 0x11)])), (5, 0))?;
+    check_eq(
+        refused("D", &sample_d(&[(1026, 0x12), (1056, 0x11)])),
+        (5, 0),
+    )
+}
+
+#[test]
+fn nscp_directory() -> Result<(), Fail> {
+    check_eq(refused("A", &broken(&[(111, 1)])), (6, 4)).note("checksum")?;
+    check_eq(refused("A", &altered(&[(65, 1)])), (7, 0)).note("header")?;
+    check_eq(refused("A", &altered(&[(68, 0xD0), (69, 12)])), (7, 2)).note("unknown tag")?;
+    check_eq(refused("A", &altered(&[(68, 0xCF), (69, 12)])), (7, 2)).note("repeated tag")?;
+    check_eq(refused("A", &altered(&[(69, 12)])), (7, 2)).note("tag 00 with a block")?;
+    check_eq(refused("A", &altered(&[(68, 0xC0)])), (7, 2)).note("block 0")?;
+    check_eq(refused("A", &altered(&[(68, 0xC0), (69, 15)])), (7, 2)).note("a trailer")?;
+    check_eq(refused("A", &altered(&[(68, 0xC3), (69, 13)])), (7, 2)).note("off the first block")?;
+    check_eq(refused("A", &altered(&[(66, 0xC3)])), (8, 0)).note("no item CF")?;
+    check_eq(refused("A", &altered(&[(67, 128)])), (8, 128)).note("outside")?;
+    check_eq(refused("A", &altered(&[(67, 4)])), (8, 4)).note("the NSCP sector")?;
+    check_eq(refused("A", &altered(&[(20, 0x13)])), (8, 8)).note("lacks 4012")?;
+    check_eq(refused("A", &altered(&[(68, 0xC0), (69, 9)])), (8, 8)).note("another item there")
+}
+
+#[test]
+fn services_directory() -> Result<(), Fail> {
+    check_eq(refused("A", &broken(&[(175, 1)])), (9, 8)).note("checksum")?;
+    check_eq(refused("A", &altered(&[(129, 1)])), (10, 0)).note("first header byte")?;
+    check_eq(refused("A", &altered(&[(131, 1)])), (10, 0)).note("last header byte")?;
+    check_eq(refused("A", &altered(&[(132, 0), (133, 0)])), (10, 1)).note("number 0000")?;
+    check_eq(refused("A", &altered(&[(135, 0)])), (10, 1)).note("length 0")?;
+    check_eq(
+        refused("D", &sample_d(&[(1156, 1), (1158, 253), (1159, 3)])),
+        (10, 1),
+    ).note("past rank 215")?;
+    check_eq(refused("A", &altered(&[(134, 6)])), (10, 1)).note("no service block")?;
+    check_eq(refused("A", &altered(&[(134, 15)])), (10, 1)).note("starts at a trailer")?;
+    check_eq(
+        refused(
+            "A",
+            &altered(&[(136, 0x12), (137, 0x34), (138, 16), (139, 1)]),
+        ),
+        (10, 2),
+    ).note("a repeated number")?;
+    check_eq(
+        refused(
+            "A",
+            &altered(&[(136, 0x12), (137, 0x35), (138, 12), (139, 2)]),
+        ),
+        (10, 2),
+    ).note("a shared block")?;
+    check_eq(
+        refused(
+            "A",
+            &altered(&[(172, 0x12), (173, 0x36), (174, 12), (175, 1)]),
+        ),
+        (10, 11),
+    ).note("the last slot")
 }
