@@ -1,6 +1,7 @@
 pub mod DirectoryPlaces
 pub mod Filling
 pub mod KnownFigures
+pub mod Locality
 pub mod Looking
 pub mod MadPlaces
 pub mod ReadEntries

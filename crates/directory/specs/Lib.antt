@@ -2,6 +2,7 @@ pub mod Checks
 pub mod Entries
 pub mod Figures
 pub mod Judged
+pub mod Laws
 pub mod Looks
 pub mod Nscp
 pub mod Reads

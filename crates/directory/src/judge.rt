@@ -18,7 +18,7 @@ use layout::Run;
 const GENERAL_PURPOSE: usize = 9;
 
 // The trailer's general purpose byte is the one of the profile's application directory.
-pub fn judge_trailer(profile: Profile, trailer: &[u8; 16]) -> Result<(), Refusal>
+pub(crate) fn judge_trailer(profile: Profile, trailer: &[u8; 16]) -> Result<(), Refusal>
     ensures { λ r. ⌜ r ≡ trailerJudged profile (now (trailer .entry)) ⌝ }
 {
     let mad = profile.mad();
@@ -29,7 +29,7 @@ pub fn judge_trailer(profile: Profile, trailer: &[u8; 16]) -> Result<(), Refusal
 }
 
 // Reads the application directory of a card: its trailer is judged first, then its seal.
-pub fn read_mad<C: Card>(card: &mut C, profile: Profile) -> Result<[u8; 48], Refusal>
+pub(crate) fn read_mad<C: Card>(card: &mut C, profile: Profile) -> Result<[u8; 48], Refusal>
     ensures { λ r. ⌜ Taken blocks present steady (madLook profile) (now (card .entry)) (now (card .exit)) r ⌝ }
 {
     read_trailer(card, profile)?;

@@ -21,8 +21,6 @@ pub use entries::ItemEntry;
 pub use entries::Slot;
 pub use entries::SlotEntry;
 pub use entries::entry_of;
-pub use judge::judge_trailer;
-pub use judge::read_mad;
 pub use reading::read_block;
 pub use reading::read_run;
 pub use seal::is_sealed;

@@ -20,7 +20,7 @@ const NSCP: u16 = 0x4011;
 pub(crate) const ITEMS: u8 = 23;
 
 // The one sector that the application directory lists as the NSCP's, if it may stand there.
-pub fn nscp_sector(profile: Profile, mad: &[u8; 48]) -> Result<Sector, Refusal>
+pub(crate) fn nscp_sector(profile: Profile, mad: &[u8; 48]) -> Result<Sector, Refusal>
     ensures { λ r. ⌜ r ≡ nscpSectorJudged profile (now (mad .entry)) ⌝ }
 {
     let place = profile.mad();
@@ -41,7 +41,7 @@ pub fn nscp_sector(profile: Profile, mad: &[u8; 48]) -> Result<Sector, Refusal>
 }
 
 // Whether entry `i` of an application directory is this identifier.
-pub fn has_aid(mad: &[u8; 48], i: u8, aid: u16) -> bool
+pub(crate) fn has_aid(mad: &[u8; 48], i: u8, aid: u16) -> bool
     ensures { λ r. ⌜ r ≡ aidIs aid (aidAt (now (mad .entry)) i) ⌝ }
 {
     match entry_of::<Aid>(mad, i) {
@@ -52,21 +52,21 @@ pub fn has_aid(mad: &[u8; 48], i: u8, aid: u16) -> bool
 
 impl Item {
     // Whether the item's tag names one block.
-    pub fn names_block(self) -> bool
+    pub(crate) fn names_block(self) -> bool
         ensures { λ r. ⌜ r ≡ namesBlock (self .tag) ⌝ }
     {
         matches!(self.tag, 0xC0 | 0xC1 | 0xC2 | 0xC5 | 0xC6)
     }
 
     // Whether the item's tag names a sector, by its first block.
-    pub fn names_sector(self) -> bool
+    pub(crate) fn names_sector(self) -> bool
         ensures { λ r. ⌜ r ≡ namesSector (self .tag) ⌝ }
     {
         matches!(self.tag, 0xC3 | 0xC4 | 0xC7 | 0xCE | 0xCF)
     }
 
     // Whether the item is wrong by itself.
-    pub fn is_wrong(self) -> bool
+    pub(crate) fn is_wrong(self) -> bool
         ensures { λ r. ⌜ r ≡ itemWrong self ⌝ }
     {
         let (_, position) = self.block.place();
@@ -78,7 +78,7 @@ impl Item {
 }
 
 // The header and then the items, the first wrong one deciding.
-pub fn judge_items(nscp: &[u8; 48]) -> Result<(), Refusal>
+pub(crate) fn judge_items(nscp: &[u8; 48]) -> Result<(), Refusal>
     ensures { λ r. ⌜ r ≡ nscpJudged (now (nscp .entry)) ⌝ }
 {
     if nscp[1] != 0 {

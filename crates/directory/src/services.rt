@@ -22,7 +22,7 @@ const SERVICES: u16 = 0x4012;
 const DIRECTORY_TAG: u8 = 0xCF;
 
 // The first block of the services directory, if it may stand where item CF puts it.
-pub fn services_block(
+pub(crate) fn services_block(
     profile: Profile,
     mad: &[u8; 48],
     nscp_sector: Sector,
@@ -58,7 +58,7 @@ fn is_misplaced(
 }
 
 // Whether the application directory lists the sector, and not for services.
-pub fn is_listed_otherwise(profile: Profile, mad: &[u8; 48], sector: Sector) -> bool
+pub(crate) fn is_listed_otherwise(profile: Profile, mad: &[u8; 48], sector: Sector) -> bool
     ensures { λ r. ⌜ r ≡ listedOtherwise profile (now (mad .entry)) (sector .0) ⌝ }
 {
     let place = profile.mad();

@@ -82,7 +82,7 @@ fn names_block(nscp: &[u8; 48], i: u8, block: Block) -> bool
 
 impl Directory {
     // The header of the services directory and then its slots, the lowest wrong one deciding.
-    pub fn judge_slots(&self) -> Result<(), Refusal>
+    pub(crate) fn judge_slots(&self) -> Result<(), Refusal>
         ensures { λ r. ⌜ r ≡ slotsJudged (now (self .entry)) ⌝ }
     {
         if !is_header_clear(&self.services) {
