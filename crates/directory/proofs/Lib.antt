@@ -1,3 +1,4 @@
+pub mod Altered
 pub mod DirectoryPlaces
 pub mod Filling
 pub mod KnownFigures
@@ -5,7 +6,9 @@ pub mod Locality
 pub mod Looking
 pub mod MadPlaces
 pub mod ReadEntries
+pub mod OneAltered
 pub mod RunTouches
 pub mod Sealed
 pub mod Searching
 pub mod SealedReads
+pub mod WrittenEntries

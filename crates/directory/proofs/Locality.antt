@@ -18,7 +18,7 @@ use Rattle.directory.specs.Services.{servicesJudged}
 use Rattle.directory.specs.declared.accepted.Nscp.{Nscp}
 use Rattle.directory.specs.Reads.{blockLook, runTouches, touchLook, joined}
 
-pub Local : {X : Type 0} → (Blocks → Look X) → Type 0
+unfoldable pub Local : {X : Type 0} → (Blocks → Look X) → Type 0
 Local l = (blocks other : Blocks) → Agree (l blocks .touches) blocks other → l other ≡ l blocks
 
 agree-append : (xs ys : List ℕ) (blocks other : Blocks) → Agree (xs ++ ys) blocks other → Agree xs blocks other × Agree ys blocks other

@@ -8,3 +8,8 @@ use Rattle.layout.specs.Crc.{crc8}
 abbrev pub sealed : List ℕ → Bool
 sealed [] = false
 sealed (sum ∷ rest) = eqb sum (crc8 rest)
+
+-- a directory given its seal
+abbrev pub resealed : List ℕ → List ℕ
+resealed [] = []
+resealed (sum ∷ rest) = crc8 rest ∷ rest

@@ -3,7 +3,7 @@ ghost use mathlib.Core.Path.{_≡_};
 ghost use Rattle.std.specs.Vec.{made};
 ghost use Rattle.std.specs.declared.result.Result.the-variants.{Ok};
 ghost use Rattle.directory.specs.Checks.{nscpLook, servicesLook, checkLook};
-ghost use Rattle.directory.specs.Laws.{ReadsDecide};
+ghost use Rattle.directory.specs.Laws.{ReadsDecide, OneAlteredByte};
 ghost use Rattle.directory.specs.Looks.{Taken};
 ghost use Rattle.directory.specs.Nscp.{nscpJudged};
 use crate::accepted::Directory;
@@ -23,6 +23,7 @@ use layout::Run;
 pub fn check_card<C: Card>(card: &mut C, profile: Profile) -> Result<Directory, Refusal>
     ensures look { λ r. ⌜ Taken blocks present steady (checkLook profile) (now (card .entry)) (now (card .exit)) r ⌝ }
     ensures decide { λ _. ⌜ ReadsDecide profile ⌝ }
+    ensures altered { λ _. ⌜ OneAlteredByte profile ⌝ }
 {
     let mad = read_mad(card, profile)?;
     let nscp = read_nscp(card, profile, &mad)?;
