@@ -29,6 +29,13 @@ impl Directory {
         entry_of::<Slot>(&self.services, i)
     }
 
+    // Item `i`, counted from 0; none where it is unused or past the last.
+    pub fn item(&self, i: u8) -> Option<Item>
+        ensures { λ r. ⌜ r ≡ itemAt (now (self .entry) .nscp) i ⌝ }
+    {
+        entry_of::<Item>(&self.nscp, i)
+    }
+
     // Whether a block is for services.
     pub fn is_service(&self, block: Block) -> bool
         ensures { λ r. ⌜ r ≡ serviceBlock (now (self .entry)) (block .0) ⌝ }

@@ -2,9 +2,15 @@
 use crate::is_accepted;
 use crate::list;
 use crate::record_of;
+use card::Plan;
+use card::TearCard;
+use card::TearCardCard;
+use card::Torn;
+use directory::check_card;
 use layout::Crc8;
 use layout::Crc8Kind;
 use layout::Image;
+use layout::Profile;
 use layout::checksum;
 use std::test::*;
 
@@ -182,4 +188,33 @@ fn services_directory() -> Result<(), Fail> {
         ),
         (10, 11),
     ).note("the last slot")
+}
+
+// The check of the sample card on a card that goes after so many reads.
+fn leaving(answers: u32) -> (u8, usize) {
+    let mut image = sample();
+    let plan = Plan {
+        answers,
+        torn: Torn::Old,
+        refusals: 0,
+    };
+    let mut card = TearCard::new(&mut image, plan);
+    match check_card(&mut card, Profile::A) {
+        Ok(_) => (0, 0),
+        Err(refusal) => (refusal.number(), refusal.place),
+    }
+}
+
+#[test]
+fn a_card_that_leaves() -> Result<(), Fail> {
+    check_eq(leaving(0), (2, 3))?;
+    check_eq(leaving(1), (2, 1))?;
+    check_eq(leaving(2), (2, 2))?;
+    check_eq(leaving(3), (2, 4))?;
+    check_eq(leaving(4), (2, 5))?;
+    check_eq(leaving(5), (2, 6))?;
+    check_eq(leaving(6), (2, 8))?;
+    check_eq(leaving(7), (2, 9))?;
+    check_eq(leaving(8), (2, 10))?;
+    check_eq(leaving(9), (0, 0))
 }
