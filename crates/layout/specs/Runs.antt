@@ -5,7 +5,7 @@ use Prim.Native.Nat.{ℕ, _+_, _<_}
 use lib.Dec.{ltb, leb}
 use Rattle.std.specs.Options.{isSome}
 use Rattle.std.specs.declared.option.Option.{Option}
-use Rattle.std.specs.declared.option.Option.the-variants.{None}
+use Rattle.std.specs.declared.option.Option.the-variants.{Some, None}
 use Rattle.layout.specs.Blocks.{trailer, rankOf, dataBlock}
 
 -- block i, counted from 0, of the run of n blocks from start on: i ranks above the start
@@ -24,3 +24,13 @@ pub record OnCard (start n : ℕ) : Type 0 where
 -- two runs that start at data blocks have a rank in common
 unfoldable pub runsMeet : ℕ → ℕ → ℕ → ℕ → Bool
 runsMeet a m b n = not (trailer a) && not (trailer b) && ltb (rankOf a) (rankOf b + n) && ltb (rankOf b) (rankOf a + m)
+
+-- a block that both runs have
+pub record Shared (a m b n : ℕ) : Type 0 where
+  pub i : ℕ
+  pub j : ℕ
+  pub low : i < m
+  pub high : j < n
+  pub block : ℕ
+  pub first : runBlock a m i ≡ Some block
+  pub second : runBlock b n j ≡ Some block

@@ -1,12 +1,12 @@
 // Runs of data blocks.
 ghost use mathlib.Core.Path.{_≡_};
 ghost use mathlib.Core.Bool.{_&&_};
-ghost use Prim.Native.Nat.{_+_};
+ghost use Prim.Native.Nat.{_+_, _<_};
 ghost use lib.Dec.{ltb};
 ghost use Rattle.std.specs.Options.{mapped};
 ghost use Rattle.std.specs.Orderings.{Decides};
 ghost use Rattle.layout.specs.Blocks.{toBlock};
-ghost use Rattle.layout.specs.Runs.{runBlock, onCard, OnCard, runsMeet};
+ghost use Rattle.layout.specs.Runs.{runBlock, onCard, OnCard, runsMeet, Shared};
 use crate::numbers::Block;
 use crate::numbers::BlockDebug;
 use crate::numbers::BlockPartialEq;
@@ -46,9 +46,10 @@ impl Run {
         }
     }
 
-    // Whether the two runs have a rank in common.
+    // Whether the two runs have a rank in common; of runs on the card that are not empty, whether they have a block in common.
     pub fn meets(self, other: Run) -> bool
-        ensures { λ r. ⌜ r ≡ runsMeet (self .start .0) (self .length) (other .start .0) (other .length) ⌝ }
+        ensures value { λ r. ⌜ r ≡ runsMeet (self .start .0) (self .length) (other .start .0) (other .length) ⌝ }
+        ensures shared { λ r. ⌜ (OnCard (self .start .0) (self .length) → OnCard (other .start .0) (other .length) → 0 < self .length → 0 < other .length → Decides r (Shared (self .start .0) (self .length) (other .start .0) (other .length))) ⌝ }
     {
         let Some(a) = self.start.rank() else {
             return false;
