@@ -45,19 +45,19 @@ pub trait Card {
 
     ghost there: { (card : Self) → steady card → present card ≡ true };
 
-    // Answers the block and changes nothing; or answers gone, and then the card is off. A card that is off answers gone.
+    // The bytes of a block, with nothing changed. Gone if the card leaves at this read, which takes it off, or is off already.
     fn read(&mut self, block: Block) -> ReadAnswer
         ensures says { λ r. ⌜ ReadSays (blocks (now (self .entry))) (present (now (self .entry))) (blocks (now (self .exit))) (present (now (self .exit))) (block .0) r ⌝ }
         ensures steady { λ r. ⌜ (steady (now (self .entry)) → (isRead r ≡ true) × steady (now (self .exit))) ⌝ }
         ensures same { λ _. ⌜ same (now (self .entry)) (now (self .exit)) ⌝ };
 
-    // Answers done, and the block alone holds the new bytes; or answers gone, the card is off, and if it was on the block holds any sixteen bytes.
+    // Done, with the new bytes in this block and every other block untouched. Gone if the card leaves at this write: it is off then, and nobody knows what the block holds. Gone, with nothing changed, if it is off already.
     fn write(&mut self, block: Block, bytes: &[u8; 16]) -> WriteAnswer
         ensures says { λ r. ⌜ WriteSays (blocks (now (self .entry))) (present (now (self .entry))) (blocks (now (self .exit))) (present (now (self .exit))) (block .0) (now (bytes .entry)) r ⌝ }
         ensures steady { λ r. ⌜ (steady (now (self .entry)) → (isDone r ≡ true) × steady (now (self .exit))) ⌝ }
         ensures same { λ _. ⌜ same (now (self .entry)) (now (self .exit)) ⌝ };
 
-    // The holder puts a card on the reader. The answer is yes only for the card that was first laid on, and then it is on; no block changes.
+    // Asks whether the card that was first laid on is on the reader, after the holder has put one there. Blocks never change by it.
     fn lay(&mut self) -> Laid
         ensures says { λ r. ⌜ LaySays (blocks (now (self .entry))) (blocks (now (self .exit))) (present (now (self .exit))) r ⌝ }
         ensures steady { λ r. ⌜ (steady (now (self .entry)) → (isYes r ≡ true) × steady (now (self .exit))) ⌝ }

@@ -13,6 +13,7 @@ pub use interface::WriteAnswer;
 pub use tear::Phase;
 pub use tear::Plan;
 pub use tear::TearCard;
+pub use tear::TearCardCard;
 pub use tear::Torn;
 
 #[cfg(test)]
