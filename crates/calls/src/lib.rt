@@ -1,4 +1,6 @@
 // Calls as a clerk writes them, a line each, and their answers as text.
+#![tactic(auto)]
+
 pub mod answers;
 pub mod digits;
 pub mod making;

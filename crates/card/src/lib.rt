@@ -1,4 +1,6 @@
 // Cards: what every card does, a card inside an image, and a card that leaves once.
+#![tactic(auto)]
+
 pub mod image;
 pub mod interface;
 pub mod lender;

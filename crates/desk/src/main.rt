@@ -1,4 +1,6 @@
 // desk LETTER IMAGE [options]: runs the calls on standard input, one on a line, on a station with the card in an image, and prints the record.
+#![tactic(auto)]
+
 mod options;
 
 use anyhow::anyhow;

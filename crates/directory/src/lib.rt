@@ -1,4 +1,6 @@
 // Directories of a citizen card, and how a card is judged by them.
+#![tactic(auto)]
+
 pub mod accepted;
 pub mod check;
 pub mod entries;

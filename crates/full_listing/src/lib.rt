@@ -1,4 +1,6 @@
 // What the lister says of a card image.
+#![tactic(auto)]
+
 pub mod cards;
 pub mod images;
 pub mod input;

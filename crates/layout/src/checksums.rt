@@ -4,7 +4,7 @@ ghost use Rattle.layout.specs.Crc.{Register, stepped};
 ghost use Rattle.layout.specs.Differ.{Bytes, DifferInOne};
 ghost use Rattle.layout.specs.CrcShows.{register8, register16};
 ghost use Rattle.layout.specs.Rounds.{stepped_lt, stepped_apart, stepped_shows};
-ghost use Rattle.std.proofs.Common.{rules};
+ghost use Rattle.std.proofs.Common.{lit<};
 
 // A kind of checksum: a start value, and a step by one byte.
 pub trait ChecksumKind {
@@ -49,7 +49,7 @@ impl ChecksumKind for Crc8 {
 
     ghost step = { stepped 8 0x1D };
 
-    ghost starts = { Prim.search rules };
+    ghost starts = { lit< tt };
 
     ghost stays = { stepped_lt 8 0x1D register8 };
 
@@ -75,7 +75,7 @@ impl ChecksumKind for Crc16 {
 
     ghost step = { stepped 16 0x1021 };
 
-    ghost starts = { Prim.search rules };
+    ghost starts = { lit< tt };
 
     ghost stays = { stepped_lt 16 0x1021 register16 };
 
@@ -113,8 +113,8 @@ fn step_by(width: u8, polynomial: u16, state: u16, byte: u8) -> u16
 
 // The checksum of some bytes.
 pub fn checksum<K: ChecksumKind>(bytes: &[u8]) -> K::State
-    ensures value { result ≡ fold step start bytes.now }
-    ensures shows { (ys : List ℕ) → Bytes ys → DifferInOne bytes.now ys → fold step start ys ≢ result }
+    ensures value { result ≡ fold K.step K.start bytes.now }
+    ensures shows { (ys : List ℕ) → Bytes ys → DifferInOne bytes.now ys → fold K.step K.start ys ≢ result }
 {
     let mut state = K::initial();
     for byte in bytes {

@@ -1,4 +1,6 @@
 // The memory of a 4K citizen card: its blocks and sectors, runs of blocks, the five profiles, the two checksums, and why a card is refused.
+#![tactic(auto)]
+
 pub mod blocks;
 pub mod checksums;
 pub mod figures;

@@ -1,4 +1,6 @@
 // lister LETTER IMAGE: judges a card image by a profile, and prints the record. The status is 0 if nothing is refused.
+#![tactic(auto)]
+
 use anyhow::anyhow;
 use listing::{is_accepted, list, record_of};
 use std::{env, fs};

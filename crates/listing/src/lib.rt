@@ -1,4 +1,6 @@
 // What the lister says of a card image: judged as a value, and written as text.
+#![tactic(auto)]
+
 ghost use Rattle.std.specs.Prelude.{◌≡◌, ◌<◌, [], ◌∷◌, ◌++◌, IfOk, string_bytes, codes};
 ghost use Rattle.card.specs.Blocks.{blocks_of};
 ghost use Rattle.directory.specs.Checks.{verdict as verdict_of};

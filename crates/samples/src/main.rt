@@ -1,4 +1,6 @@
 // samples LETTER IMAGE ..: prints the records of several cards, one after another. It runs the stored cards in the gate.
+#![tactic(auto)]
+
 use full_listing::list;
 use std::{env, fs};
 

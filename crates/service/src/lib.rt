@@ -1,4 +1,6 @@
 // The data of one service: objects, and the frame around them that fills a run.
+#![tactic(auto)]
+
 pub mod blocks;
 pub mod figures;
 pub mod frames;

@@ -1,4 +1,6 @@
 // A station: finds and reads services on any card.
+#![tactic(auto)]
+
 pub mod figures;
 pub mod find;
 pub mod frame;

@@ -1,4 +1,6 @@
 // Words and lines that the records of the programs share.
+#![tactic(auto)]
+
 pub mod hex;
 pub mod lines;
 

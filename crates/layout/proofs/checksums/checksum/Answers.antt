@@ -20,5 +20,5 @@ returns g c =
       value = value;
       shows = λ ys bytes differ same.
           one_byte_shows k.fits k.step laws.stays laws.apart laws.shows k.start laws.starts
-          xs ys (All-from_get_or _ xs 0 (λ i _. (c.type-inv.bytes i).fits)) bytes differ (same ∙ value);
+          xs ys (All-from_get_or _ xs 0 (λ i _. (c.type_inv.bytes i).fits)) bytes differ (same ∙ value);
     }

@@ -11,8 +11,8 @@ loop-i-init c = (
   added_fits _ _ c.requires.register c.args.state c.args.byte _ c.requires.state (omega arith) c.from.ensures,
 )
 
-pub overflow-mul-register-else-register-top : goal.overflow-mul-register-else-register-top
-overflow-mul-register-else-register-top c = record { fits = doubled_fits _ _ c.requires.register c.loop-i.register c.loop-i.invariant.1 }
+pub overflow_mul-register-else-register-top : goal.overflow_mul-register-else-register-top
+overflow_mul-register-else-register-top c = record { fits = doubled_fits _ _ c.requires.register c.loop-i.register c.loop-i.invariant.1 }
 
 pub loop-i-preserved : goal.loop-i-preserved
 loop-i-preserved c =
@@ -23,13 +23,13 @@ loop-i-preserved c =
       | then-register-top v ↦ v.register-is ∙ turn_low w poly c.requires.register s v.if-register-top.true
       | else-register-top v ↦ v.register-is ∙ turn_high w poly c.requires.register s v.if-register-top.false
     ] in (
-      turn ∙ ap (round w poly) c.loop-i.invariant.0 ∙ sym (rounds_more w poly c.loop-i.-i _),
+      turn ∙ ap (round w poly) c.loop-i.invariant.0 ∙ sym (rounds_more w poly c.loop-i._i _),
       subst (λ x. x < 2 ^ w) (sym turn) (round_lt w poly c.requires.register s c.loop-i.invariant.1),
     )
 
 pub returns : goal.returns
 returns c =
-    let done : c.loop-i.-i ≡ 8 = omega arith in
+    let done : c.loop-i._i ≡ 8 = omega arith in
     let first = bit_xor c.args.state ((c.from.result * 2 ^ (c.args.width - 8)) % 65536) in
     record {
       value =

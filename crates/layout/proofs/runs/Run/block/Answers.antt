@@ -8,21 +8,21 @@ use Rattle.layout.proofs.runs.Run.block.Goals as goal
 pub returns-then-i-self : goal.returns-then-i-self
 returns-then-i-self c = ap (option_map to_block) (sym (run_block_past _ _ _ c.if-i-self.true))
 
-pub returns-in-err-first : goal.returns-in-err-first
-returns-in-err-first c =
-    c.from-residual.ensures ∙ ap (option_map to_block) (sym (run_block_trailer _ _ _ c.in-err-first.ensures))
+pub returns-in_err-first : goal.returns-in_err-first
+returns-in_err-first c =
+    c.from_residual.ensures ∙ ap (option_map to_block) (sym (run_block_trailer _ _ _ c.in_err-first.ensures))
 
-pub returns-in-err-rank : goal.returns-in-err-rank
-returns-in-err-rank c =
-    let first = c.in-ok-first.ensures in
-    let past : 216 ≤ rank_of c.args.self.start.0 + c.args.i = omega (arith, first.rank, c.in-err-rank.ensures) in
-    c.from-residual-in-err-rank.ensures
+pub returns-in_err-rank : goal.returns-in_err-rank
+returns-in_err-rank c =
+    let first = c.in_ok-first.ensures in
+    let past : 216 ≤ rank_of c.args.self.start.0 + c.args.i = omega (arith, first.rank, c.in_err-rank.ensures) in
+    c.from_residual-in_err-rank.ensures
     ∙ ap (option_map to_block) (sym (run_block_rank _ _ _ c.if-i-self.false first.plain ∙ past_block _ past))
 
 pub returns : goal.returns
 returns c =
-    let first = c.in-ok-first.ensures in
-    let same : c.in-ok-rank.rank ≡ rank_of c.args.self.start.0 + c.args.i = omega (arith, first.rank, c.in-ok-rank.ensures.1) in
+    let first = c.in_ok-first.ensures in
+    let same : c.in_ok-rank.rank ≡ rank_of c.args.self.start.0 + c.args.i = omega (arith, first.rank, c.in_ok-rank.ensures.1) in
     ranked_block _ _ c.block.ensures
     ∙ ap (λ k. option_map to_block (data_block k)) same
     ∙ ap (option_map to_block) (sym (run_block_rank _ _ _ c.if-i-self.false first.plain))

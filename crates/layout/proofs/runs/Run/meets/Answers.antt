@@ -4,17 +4,17 @@ use Rattle.layout.specs.Blocks.{rank_of}
 use Rattle.layout.proofs.RunBlocks.{meet_plain, meet_left, meet_right, meet_decides}
 use Rattle.layout.proofs.runs.Run.meets.Goals as goal
 
-pub returns-in-default : goal.returns-in-default
-returns-in-default c =
-    let trailer = c.in-default.ensures in
+pub returns-in_default : goal.returns-in_default
+returns-in_default c =
+    let trailer = c.in_default.ensures in
     record {
       value = sym (meet_left _ _ _ _ trailer);
       shared = λ on _ _ _. absurd (both_ways _ on.starts trailer);
     }
 
-pub returns-in-default-rank : goal.returns-in-default-rank
-returns-in-default-rank c =
-    let trailer = c.in-default-rank.ensures in
+pub returns-in_default-rank : goal.returns-in_default-rank
+returns-in_default-rank c =
+    let trailer = c.in_default-rank.ensures in
     record {
       value = sym (meet_right _ _ _ _ c.in-Some.ensures.plain trailer);
       shared = λ _ on _ _. absurd (both_ways _ on.starts trailer);
