@@ -24,9 +24,9 @@ pub fn write_by_any_card(image: &mut Image, block: Block, bytes: &[u8; 16])
 }
 
 fn write_on<C: Card>(card: &mut C, block: Block, bytes: &[u8; 16]) -> WriteAnswer
-    ensures says { WriteSays (blocks card.old) (present card.old) (blocks card.new) (present card.new) block.0 bytes.now result }
-    ensures steady { steady card.old → (is_done result ≡ true) × steady card.new }
-    ensures same { same card.old card.new }
+    ensures says { WriteSays (C.blocks card.old) (C.present card.old) (C.blocks card.new) (C.present card.new) block.0 bytes.now result }
+    ensures steady { C.steady card.old → (is_done result ≡ true) × C.steady card.new }
+    ensures same { C.same card.old card.new }
 {
     card.write(block, bytes)
 }

@@ -14,7 +14,7 @@ use layout::{Profile, Reason, Refusal, Run};
 
 // Reads the directories of a card, each block once and in order, and judges each part before the next is read.
 pub fn check_card<C: Card>(card: &mut C, profile: Profile) -> Result<Directory, Refusal>
-    ensures look { Taken blocks present steady (check_look profile) card.old card.new result }
+    ensures look { Taken C.blocks C.present C.steady (check_look profile) card.old card.new result }
     ensures decide { ReadsDecide profile }
     ensures altered { OneAlteredByte profile }
 {
@@ -25,7 +25,7 @@ pub fn check_card<C: Card>(card: &mut C, profile: Profile) -> Result<Directory, 
 
 // The NSCP directory: its sector, its seal, its header and items.
 fn read_nscp<C: Card>(card: &mut C, profile: Profile, mad: &[u8; 48]) -> Result<Nscp, Refusal>
-    ensures look { Taken blocks present steady (nscp_look profile mad.now) card.old card.new result }
+    ensures look { Taken C.blocks C.present C.steady (nscp_look profile mad.now) card.old card.new result }
     ensures items { IfOk result (λ n. nscp_judged n.bytes ≡ Ok tt) }
 {
     let sector = nscp_sector(profile, mad)?;
@@ -46,7 +46,7 @@ fn read_services<C: Card>(
     nscp: Nscp,
 ) -> Result<Directory, Refusal>
     requires items { nscp_judged nscp.bytes ≡ Ok tt }
-    ensures { Taken blocks present steady (services_look profile mad.now nscp) card.old card.new result }
+    ensures { Taken C.blocks C.present C.steady (services_look profile mad.now nscp) card.old card.new result }
 {
     let services_block = services_block(profile, mad, nscp.sector, &nscp.bytes)?;
     let run = Run {

@@ -65,7 +65,7 @@ pub trait Entry: Sized {
 
 // Entry `i` of a directory, counted from 0; none where it is unused or past the end.
 pub fn entry_of<E: Entry>(directory: &[u8; 48], i: u8) -> Option<E>
-    ensures { result ≡ entry_at before wide parse directory.now i }
+    ensures { result ≡ entry_at E.before E.wide E.parse directory.now i }
 {
     let width = E::width();
     let start = E::header() + i as usize * width;
@@ -82,9 +82,9 @@ pub fn entry_of<E: Entry>(directory: &[u8; 48], i: u8) -> Option<E>
 
 // Writes entry `i`, or marks it unused; nothing past the end. Reading gives it back, and the other entries are as they were.
 pub fn put_entry<E: Entry + Drop>(directory: &mut [u8; 48], i: u8, value: Option<E>)
-    ensures put { directory.new ≡ entry_put before wide print directory.old i value }
-    ensures back { Fit fits value → before + i * wide + wide ≤ 48 → entry_at before wide parse directory.new i ≡ value }
-    ensures others { (j : ℕ) → (j ≢ i) → entry_at before wide parse directory.new j ≡ entry_at before wide parse directory.old j }
+    ensures put { directory.new ≡ entry_put E.before E.wide E.print directory.old i value }
+    ensures back { Fit E.fits value → E.before + i * E.wide + E.wide ≤ 48 → entry_at E.before E.wide E.parse directory.new i ≡ value }
+    ensures others { (j : ℕ) → (j ≢ i) → entry_at E.before E.wide E.parse directory.new j ≡ entry_at E.before E.wide E.parse directory.old j }
 {
     let width = E::width();
     let start = E::header() + i as usize * width;
@@ -94,8 +94,8 @@ pub fn put_entry<E: Entry + Drop>(directory: &mut [u8; 48], i: u8, value: Option
 }
 
 fn fill_place<E: Entry>(place: &mut [u8], value: Option<E>)
-    requires { length place.old ≡ wide }
-    ensures { place.new ≡ printed print wide value }
+    requires { length place.old ≡ E.wide }
+    ensures { place.new ≡ printed E.print E.wide value }
 {
     match value {
         Some(value) => value.write(place),

@@ -25,14 +25,14 @@ pub(crate) fn judge_trailer(profile: Profile, trailer: &[u8; 16]) -> Result<(), 
 
 // Reads the application directory of a card: its trailer is judged first, then its seal.
 pub(crate) fn read_mad<C: Card>(card: &mut C, profile: Profile) -> Result<[u8; 48], Refusal>
-    ensures { Taken blocks present steady (mad_look profile) card.old card.new result }
+    ensures { Taken C.blocks C.present C.steady (mad_look profile) card.old card.new result }
 {
     read_trailer(card, profile)?;
     read_sealed(card, profile.mad().run, Reason::MadChecksum)
 }
 
 fn read_trailer<C: Card>(card: &mut C, profile: Profile) -> Result<(), Refusal>
-    ensures { Taken blocks present steady (trailer_look profile) card.old card.new result }
+    ensures { Taken C.blocks C.present C.steady (trailer_look profile) card.old card.new result }
 {
     let trailer = read_block(card, profile.mad().trailer)?;
     judge_trailer(profile, &trailer)
@@ -46,7 +46,7 @@ pub(crate) fn read_sealed<C: Card>(
 ) -> Result<[u8; 48], Refusal>
     requires run { on_card run.start.0 run.length ≡ true }
     requires few { run.length ≤ 3 }
-    ensures { Taken blocks present steady (sealed_look reason run.start.0 run.length) card.old card.new result }
+    ensures { Taken C.blocks C.present C.steady (sealed_look reason run.start.0 run.length) card.old card.new result }
 {
     let mut bytes = [0u8; 48];
     read_run(card, run, &mut bytes)?;

@@ -9,7 +9,7 @@ use layout::{Block, Reason, Refusal, Run};
 
 // One block; refused where the card is gone.
 pub fn read_block<C: Card>(card: &mut C, block: Block) -> Result<[u8; 16], Refusal>
-    ensures { Taken blocks present steady (block_look block.0) card.old card.new result }
+    ensures { Taken C.blocks C.present C.steady (block_look block.0) card.old card.new result }
 {
     match card.read(block) {
         ReadAnswer::Bytes(bytes) => Ok(bytes),
@@ -19,7 +19,7 @@ pub fn read_block<C: Card>(card: &mut C, block: Block) -> Result<[u8; 16], Refus
 
 // The blocks of a run into the front of a buffer. Nothing is read of a run that leaves the card or is longer than the buffer.
 pub fn read_run<C: Card>(card: &mut C, run: Run, buffer: &mut [u8]) -> Result<(), Refusal>
-    ensures { Filled blocks present steady (run_reads run.start.0 run.length (length buffer.old)) card.old card.new buffer.old buffer.new result }
+    ensures { Filled C.blocks C.present C.steady (run_reads run.start.0 run.length (length buffer.old)) card.old card.new buffer.old buffer.new result }
 {
     if run.is_on_card() && 16 * run.length as usize <= buffer.len() {
         fill_from_run(card, run, buffer)
@@ -31,7 +31,7 @@ pub fn read_run<C: Card>(card: &mut C, run: Run, buffer: &mut [u8]) -> Result<()
 fn fill_from_run<C: Card>(card: &mut C, run: Run, buffer: &mut [u8]) -> Result<(), Refusal>
     requires run { OnCard run.start.0 run.length }
     requires room { 16 * run.length ≤ length buffer.old }
-    ensures { Filled blocks present steady (run_touches run.start.0 run.length) card.old card.new buffer.old buffer.new result }
+    ensures { Filled C.blocks C.present C.steady (run_touches run.start.0 run.length) card.old card.new buffer.old buffer.new result }
 {
     for i in 0..run.length {
         let block = run.block(i).unwrap();

@@ -19,8 +19,8 @@ pub(crate) fn card_listing<C: Card>(
     heap: Global,
     station: &mut Station<C>,
 ) -> Result<Listing, AllocError>
-    ensures text { steady station.old.card → IfOk result (λ l. string_bytes l.text ≡ card_record station.old.profile (blocks station.old.card)) }
-    ensures accepted { steady station.old.card → IfOk result (λ l. l.accepted ≡ is_ok (verdict_of station.old.profile (blocks station.old.card))) }
+    ensures text { C.steady station.old.card → IfOk result (λ l. string_bytes l.text ≡ card_record station.old.profile (C.blocks station.old.card)) }
+    ensures accepted { C.steady station.old.card → IfOk result (λ l. l.accepted ≡ is_ok (verdict_of station.old.profile (C.blocks station.old.card))) }
 {
     let mut text = profile_line(heap, station.profile)?;
     let verdict = check_card(&mut station.card, station.profile);
@@ -36,7 +36,7 @@ fn verdict_lines<C: Card>(
     station: &mut Station<C>,
     verdict: Result<Directory, Refusal>,
 ) -> Result<String, AllocError>
-    ensures { Wrote blocks steady station.old station.new (λ p b. verdict_lines p b verdict) result }
+    ensures { Wrote C.blocks C.steady station.old station.new (λ p b. verdict_lines p b verdict) result }
 {
     match verdict {
         Ok(directory) => directory_lines(heap, station, &directory),
@@ -50,7 +50,7 @@ fn directory_lines<C: Card>(
     station: &mut Station<C>,
     directory: &Directory,
 ) -> Result<String, AllocError>
-    ensures { Wrote blocks steady station.old station.new (λ p b. lines_of p b directory.now 11 ++ free_line (free_blocks directory.now)) result }
+    ensures { Wrote C.blocks C.steady station.old station.new (λ p b. lines_of p b directory.now 11 ++ free_line (free_blocks directory.now)) result }
 {
     let mut text = slot_lines(heap, station, directory)?;
     let free = free_line(heap, directory.count_free())?;

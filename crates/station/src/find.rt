@@ -14,7 +14,7 @@ use layout::Refusal;
 impl<C: Card> Station<C> {
     // The slot and the run of a service. Refused, in this order: number 0000, the directory check, no such service.
     pub fn find(&mut self, number: u16) -> Result<Found, Refusal>
-        ensures look { Taken blocks present steady (find_look self.old.profile number) self.old.card self.new.card result }
+        ensures look { Taken C.blocks C.present C.steady (find_look self.old.profile number) self.old.card self.new.card result }
         ensures station { self.new ≡ with_card self.old self.new.card }
     {
         judge_findable(number)?;

@@ -9,8 +9,8 @@ use card::{Card, Laid};
 impl<C: Card> Station<C> {
     // Asks the card once, and answers as it does. Nothing is refused.
     pub fn lay(&mut self) -> Laid
-        ensures says { LaySays (blocks self.old.card) (blocks self.new.card) (present self.new.card) result }
-        ensures steady { steady self.old.card → (is_yes result ≡ true) × steady self.new.card }
+        ensures says { LaySays (C.blocks self.old.card) (C.blocks self.new.card) (C.present self.new.card) result }
+        ensures steady { C.steady self.old.card → (is_yes result ≡ true) × C.steady self.new.card }
         ensures station { self.new ≡ with_card self.old self.new.card }
     {
         self.card.lay()

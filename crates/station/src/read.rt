@@ -14,7 +14,7 @@ use layout::Refusal;
 impl<C: Card> Station<C> {
     // The data of a service, in the caller's buffer. Refused, in this order: number 0000 or 9999, the directory check, no such service, a short buffer, the card gone while the run is read, the frame.
     pub fn read(&mut self, number: u16, buffer: &mut [u8]) -> Result<Reading, Refusal>
-        ensures read { ReadDone blocks present steady self.old.profile number self.old.card self.new.card buffer.old buffer.new result }
+        ensures read { ReadDone C.blocks C.present C.steady self.old.profile number self.old.card self.new.card buffer.old buffer.new result }
         ensures station { self.new ≡ with_card self.old self.new.card }
     {
         judge_readable(number)?;

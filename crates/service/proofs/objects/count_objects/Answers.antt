@@ -8,17 +8,17 @@ use Rattle.service.proofs.objects.count_objects.Goals as goal
 pub loop-object-init : goal.loop-object-init
 loop-object-init c = progress_none c.args.content.now
 
-pub returns-in-err-object : goal.returns-in-err-object
-returns-in-err-object c =
+pub returns-in_err-object : goal.returns-in_err-object
+returns-in_err-object c =
     let xs = c.args.content.now in
-    let p = err_from_is_err_and c.from-residual.result c.from-residual.ensures.1 in
+    let p = err_from_is_err_and c.from_residual.result c.from_residual.ensures.1 in
     record {
-      value = p.1 ∙ ap (λ e. Err e) p.2 ∙ progress_wrong xs c.loop-object.at c.loop-object.count _ c.loop-object.invariant (sym c.in-err-object.ensures.reads);
+      value = p.1 ∙ ap (λ e. Err e) p.2 ∙ progress_wrong xs c.loop-object.at c.loop-object.count _ c.loop-object.invariant (sym c.in_err-object.ensures.reads);
       exact = content_exact xs;
     }
 
 met : (c : goal.After-next-at) → next_object c.args.content.now c.loop-object.at ≡ Ok (Some (seen c.in-Some.object))
-met c = sym c.in-ok-object.ensures.reads ∙ ap (λ o. next_seen (Ok o)) c.in-Some.is
+met c = sym c.in_ok-object.ensures.reads ∙ ap (λ o. next_seen (Ok o)) c.in-Some.is
 
 pub loop-object-smaller : goal.loop-object-smaller
 loop-object-smaller c =
@@ -34,5 +34,5 @@ loop-object-preserved c =
 pub returns : goal.returns
 returns c =
     let xs = c.args.content.now in
-    let end = sym c.in-ok-object.ensures.reads ∙ ap (λ o. next_seen (Ok o)) c.in-default.is in
+    let end = sym c.in_ok-object.ensures.reads ∙ ap (λ o. next_seen (Ok o)) c.in_default.is in
     record { value = progress_done xs c.loop-object.at c.loop-object.count c.loop-object.invariant end; exact = content_exact xs }

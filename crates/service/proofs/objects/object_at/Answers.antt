@@ -6,9 +6,9 @@ pub returns-then-at-content : goal.returns-then-at-content
 unfolding object_at
 returns-then-at-content c = search rules
 
-pub returns-in-err-format : goal.returns-in-err-format
+pub returns-in_err-format : goal.returns-in_err-format
 unfolding object_at
-returns-in-err-format c = search rules
+returns-in_err-format c = search rules
 
 pub returns-then-first-ne31 : goal.returns-then-first-ne31
 unfolding object_at
@@ -18,9 +18,9 @@ pub returns-then-at-content-2 : goal.returns-then-at-content-2
 unfolding object_at
 returns-then-at-content-2 c = search rules
 
-pub returns-in-err-format-2 : goal.returns-in-err-format-2
+pub returns-in_err-format-2 : goal.returns-in_err-format-2
 unfolding object_at
-returns-in-err-format-2 c = search rules
+returns-in_err-format-2 c = search rules
 
 pub returns : goal.returns
 unfolding object_at

@@ -11,8 +11,8 @@ loop-byte-preserved c =
     let xs = c.args.bytes.now in
     let i = c.loop-byte.byte-index in
     let text = string_bytes c.loop-byte.text in
-    let digits = c.as-str.ensures.value ∙ c.in-ok-digits.ensures in
-    let pushed = c.in-ok-push-str.ensures.bytes ∙ ap (λ d. text ++ d) digits in
+    let digits = c.as_str.ensures.value ∙ c.in_ok-digits.ensures in
+    let pushed = c.in_ok-push_str.ensures.bytes ∙ ap (λ d. text ++ d) digits in
     ap (λ t. t ++ hex_bytes (drop (i + 1) xs)) pushed ∙ append_assoc text (hex_byte (get_or xs i 0)) (hex_bytes (drop (i + 1) xs))
     ∙ ap (λ r. text ++ hex_bytes r) (sym (drop_more xs i 0 c.loop-byte-test.true)) ∙ c.loop-byte.invariant
 
