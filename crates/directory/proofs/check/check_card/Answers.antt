@@ -7,29 +7,29 @@ use Rattle.directory.proofs.OneAltered.{one_altered}
 use Rattle.directory.proofs.Looking.{taken_stop, taken_then}
 use Rattle.directory.proofs.check.check_card.Goals as goal
 
-pub returns-in-err-mad : goal.returns-in-err-mad
+pub returns-in_err-mad : goal.returns-in_err-mad
 unfolding check_look
-returns-in-err-mad g c =
+returns-in_err-mad g c =
     let k = g.C.Card in
     let p = c.args.profile in
-    let e = err_from_is_err_and c.from-residual.result c.from-residual.ensures.1 in
+    let e = err_from_is_err_and c.from_residual.result c.from_residual.ensures.1 in
     record {
-      look = rw (e.1, e.2) (taken_stop k.blocks k.present k.steady (mad_look p) (λ b mad. rest_look p mad b) _ c.in-err-mad.ensures refl);
+      look = rw (e.1, e.2) (taken_stop k.blocks k.present k.steady (mad_look p) (λ b mad. rest_look p mad b) _ c.in_err-mad.ensures refl);
       decide = reads_decide p;
       altered = one_altered p;
     }
 
-pub returns-in-err-nscp : goal.returns-in-err-nscp
+pub returns-in_err-nscp : goal.returns-in_err-nscp
 unfolding check_look
-returns-in-err-nscp g c =
+returns-in_err-nscp g c =
     let k = g.C.Card in
     let p = c.args.profile in
-    let mad = c.in-ok-mad.mad in
-    let e = err_from_is_err_and c.from-residual-in-err-nscp.result c.from-residual-in-err-nscp.ensures.1 in
+    let mad = c.in_ok-mad.mad in
+    let e = err_from_is_err_and c.from_residual-in_err-nscp.result c.from_residual-in_err-nscp.ensures.1 in
     record {
       look = rw (e.1, e.2)
-          (taken_then k.blocks k.present k.steady (mad_look p) (λ b m. rest_look p m b) mad c.in-ok-mad.ensures refl
-          (taken_stop k.blocks k.present k.steady (nscp_look p mad) (λ b n. services_look p mad n b) _ c.in-err-nscp.ensures.look refl));
+          (taken_then k.blocks k.present k.steady (mad_look p) (λ b m. rest_look p m b) mad c.in_ok-mad.ensures refl
+          (taken_stop k.blocks k.present k.steady (nscp_look p mad) (λ b n. services_look p mad n b) _ c.in_err-nscp.ensures.look refl));
       decide = reads_decide p;
       altered = one_altered p;
     }
@@ -39,10 +39,10 @@ unfolding check_look
 returns g c =
     let k = g.C.Card in
     let p = c.args.profile in
-    let mad = c.in-ok-mad.mad in
+    let mad = c.in_ok-mad.mad in
     record {
-      look = taken_then k.blocks k.present k.steady (mad_look p) (λ b m. rest_look p m b) mad c.in-ok-mad.ensures refl
-          (taken_then k.blocks k.present k.steady (nscp_look p mad) (λ b n. services_look p mad n b) c.in-ok-nscp.nscp c.in-ok-nscp.ensures.look refl c.read-services.ensures);
+      look = taken_then k.blocks k.present k.steady (mad_look p) (λ b m. rest_look p m b) mad c.in_ok-mad.ensures refl
+          (taken_then k.blocks k.present k.steady (nscp_look p mad) (λ b n. services_look p mad n b) c.in_ok-nscp.nscp c.in_ok-nscp.ensures.look refl c.read_services.ensures);
       decide = reads_decide p;
       altered = one_altered p;
     }

@@ -8,8 +8,8 @@ use Rattle.directory.proofs.Looking.{taken_then}
 use Rattle.directory.proofs.MadPlaces.{mad_on_card, mad_few}
 use Rattle.directory.proofs.judge.read_mad.Goals as goal
 
-pub read-sealed-requires : goal.read-sealed-requires
-read-sealed-requires g c =
+pub read_sealed-requires : goal.read_sealed-requires
+read_sealed-requires g c =
     let is = sym c.mad.ensures in
     record {
       run = subst (λ m. on_card m.run.start.0 m.run.length ≡ true) is (mad_on_card c.args.profile);
@@ -20,6 +20,6 @@ pub returns : goal.returns
 returns g c =
     let k = g.C.Card in
     let p = c.args.profile in
-    taken_then k.blocks k.present k.steady (trailer_look p) (λ b _. sealed_look MadChecksum (mad_of p).run.start.0 (mad_of p).run.length b) c.in-ok-read-trailer.field-0
-    c.in-ok-read-trailer.ensures refl
-    (subst (λ m. Taken k.blocks k.present k.steady (sealed_look MadChecksum m.run.start.0 m.run.length) c.read-trailer.new.card c.read-sealed.new.card c.read-sealed.result) c.mad.ensures c.read-sealed.ensures)
+    taken_then k.blocks k.present k.steady (trailer_look p) (λ b _. sealed_look MadChecksum (mad_of p).run.start.0 (mad_of p).run.length b) c.in_ok-read_trailer.field-0
+    c.in_ok-read_trailer.ensures refl
+    (subst (λ m. Taken k.blocks k.present k.steady (sealed_look MadChecksum m.run.start.0 m.run.length) c.read_trailer.new.card c.read_sealed.new.card c.read_sealed.result) c.mad.ensures c.read_sealed.ensures)

@@ -5,15 +5,15 @@ use Rattle.directory.specs.Nscp.{item_wrong, tag_is, wrong_as, wrong_item}
 use Rattle.directory.specs.Searches.{any_of}
 use Rattle.directory.proofs.nscp.is_wrong_item.Goals as goal
 
-pub returns-then-is-wrong : goal.returns-then-is-wrong
+pub returns-then-is_wrong : goal.returns-then-is_wrong
 unfolding wrong_item
-returns-then-is-wrong c =
-    c.if-is-wrong.true ∙ sym (or_left (item_wrong c.in-Some.item) _ (sym c.if-is-wrong.ensures)) ∙ ap (wrong_as c.args.nscp.now c.args.i) c.in-Some.ensures
+returns-then-is_wrong c =
+    c.if-is_wrong.true ∙ sym (or_left (item_wrong c.in-Some.item) _ (sym c.if-is_wrong.ensures)) ∙ ap (wrong_as c.args.nscp.now c.args.i) c.in-Some.ensures
 
-pub returns-else-is-wrong : goal.returns-else-is-wrong
+pub returns-else-is_wrong : goal.returns-else-is_wrong
 unfolding wrong_item
-returns-else-is-wrong c =
-    c.has-tag.ensures ∙ ap (λ b. b || any_of (λ j. tag_is c.in-Some.item.tag (item_at c.args.nscp.now j)) c.args.i) c.if-is-wrong.ensures ∙ ap (wrong_as c.args.nscp.now c.args.i) c.in-Some.ensures
+returns-else-is_wrong c =
+    c.has_tag.ensures ∙ ap (λ b. b || any_of (λ j. tag_is c.in-Some.item.tag (item_at c.args.nscp.now j)) c.args.i) c.if-is_wrong.ensures ∙ ap (wrong_as c.args.nscp.now c.args.i) c.in-Some.ensures
 
 pub returns-in-None : goal.returns-in-None
 unfolding wrong_item

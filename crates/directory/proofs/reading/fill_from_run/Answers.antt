@@ -7,15 +7,15 @@ use Rattle.directory.proofs.Filling.{Progress, progress_gone, progress_more, pro
 use Rattle.directory.proofs.RunTouches.{length_touches, nth_touches, mapped_some}
 use Rattle.directory.proofs.reading.fill_from_run.Goals as goal
 
-pub returns-in-err-bytes : goal.returns-in-err-bytes
-returns-in-err-bytes g c =
+pub returns-in_err-bytes : goal.returns-in_err-bytes
+returns-in_err-bytes g c =
     let k = g.C.Card in
     let start = c.args.run.start.0 in
     let n = c.args.run.length in
     let here = nth_touches start n c.loop-i.i c.unwrap-block.result.0 c.loop-i-test.true (mapped_some _ _ (sym c.block.ensures ∙ c.unwrap-block.ensures)) in
-    let p = err_from_is_err_and c.from-residual.result c.from-residual.ensures.1 in
+    let p = err_from_is_err_and c.from_residual.result c.from_residual.ensures.1 in
     rw (p.1, p.2)
-    (progress_gone k.blocks k.present k.steady k.full (run_touches start n) c.loop-i.i c.unwrap-block.result.0 here _ _ _ _ _ _ c.loop-i.invariant c.in-err-bytes.ensures)
+    (progress_gone k.blocks k.present k.steady k.full (run_touches start n) c.loop-i.i c.unwrap-block.result.0 here _ _ _ _ _ _ c.loop-i.invariant c.in_err-bytes.ensures)
 
 pub loop-i-preserved : goal.loop-i-preserved
 loop-i-preserved g c =
@@ -24,9 +24,9 @@ loop-i-preserved g c =
     let n = c.args.run.length in
     let i = c.loop-i.i in
     let here = nth_touches start n i c.unwrap-block.result.0 c.loop-i-test.true (mapped_some _ _ (sym c.block.ensures ∙ c.unwrap-block.ensures)) in
-    let more = progress_more k.blocks k.present k.steady k.full (run_touches start n) i c.unwrap-block.result.0 here _ _ _ _ _ c.in-ok-bytes.bytes
-    (omega (arith, length_touches start n)) (omega (arith, length_touches start n)) c.loop-i.invariant c.in-ok-bytes.ensures in
-    subst (λ b. Progress k.blocks k.present k.steady k.full (run_touches start n) (i + 1) c.args.card.now c.read-block.new.card c.args.buffer.now (put_mid (16 * i) (16 * i + 16 - 16 * i) c.loop-i.buffer b)) (sym c.copy-block.ensures) more
+    let more = progress_more k.blocks k.present k.steady k.full (run_touches start n) i c.unwrap-block.result.0 here _ _ _ _ _ c.in_ok-bytes.bytes
+    (omega (arith, length_touches start n)) (omega (arith, length_touches start n)) c.loop-i.invariant c.in_ok-bytes.ensures in
+    subst (λ b. Progress k.blocks k.present k.steady k.full (run_touches start n) (i + 1) c.args.card.now c.read_block.new.card c.args.buffer.now (put_mid (16 * i) (16 * i + 16 - 16 * i) c.loop-i.buffer b)) (sym c.copy_block.ensures) more
 
 pub returns : goal.returns
 returns g c =

@@ -8,10 +8,10 @@ use Rattle.directory.proofs.services.find_item.Goals as goal
 pub loop-i-init : goal.loop-i-init
 loop-i-init c = lowest_none _
 
-pub returns-then-is-tagged : goal.returns-then-is-tagged
-returns-then-is-tagged c =
+pub returns-then-is_tagged : goal.returns-then-is_tagged
+returns-then-is_tagged c =
     let f = λ (i : ℕ). tag_is c.args.tag (item_at c.args.nscp.now i) in
-    c.entry-of.ensures ∙ ap (item_found c.args.nscp.now) (sym (lowest_here f 23 c.loop-i.i c.loop-i-test.true c.loop-i.invariant (sym c.if-is-tagged.ensures)))
+    c.entry_of.ensures ∙ ap (item_found c.args.nscp.now) (sym (lowest_here f 23 c.loop-i.i c.loop-i-test.true c.loop-i.invariant (sym c.if-is_tagged.ensures)))
 
 pub loop-i-preserved : goal.loop-i-preserved
-loop-i-preserved c = lowest_past _ c.loop-i.i c.loop-i.invariant (sym c.if-is-tagged.ensures)
+loop-i-preserved c = lowest_past _ c.loop-i.i c.loop-i.invariant (sym c.if-is_tagged.ensures)

@@ -12,7 +12,7 @@ pub loop-j-init : goal.loop-j-init
 loop-j-init c = (c.loop-i.invariant, any_none _)
 
 pub loop-j-preserved : goal.loop-j-preserved
-loop-j-preserved c = (c.loop-j.invariant.0, any_past _ c.loop-j.j c.loop-j.invariant.1 (sym c.if-do-share.ensures))
+loop-j-preserved c = (c.loop-j.invariant.0, any_past _ c.loop-j.j c.loop-j.invariant.1 (sym c.if-do_share.ensures))
 
 pub loop-i-preserved : goal.loop-i-preserved
 unfolding shares_earlier
@@ -23,10 +23,10 @@ loop-i-preserved c =
     let all : c.loop-j.j ≡ i = omega arith in
     lowest_past (shares_earlier services) i c.loop-j.invariant.0 (ap (any_of f) (sym all) ∙ c.loop-j.invariant.1)
 
-pub returns-then-do-share : goal.returns-then-do-share
+pub returns-then-do_share : goal.returns-then-do_share
 unfolding shares_earlier
-returns-then-do-share c =
+returns-then-do_share c =
     let services = c.args.services.now in
     let i = c.loop-i.i in
     sym (lowest_here (shares_earlier services) 11 i c.loop-i-test.true c.loop-j.invariant.0
-    (any_here _ i c.loop-j.j c.loop-j-test.true (sym c.if-do-share.ensures)))
+    (any_here _ i c.loop-j.j c.loop-j-test.true (sym c.if-do_share.ensures)))

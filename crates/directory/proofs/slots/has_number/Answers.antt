@@ -5,8 +5,8 @@ use Rattle.directory.proofs.slots.has_number.Goals as goal
 pub loop-j-init : goal.loop-j-init
 loop-j-init c = any_none _
 
-pub returns-then-is-numbered : goal.returns-then-is-numbered
-returns-then-is-numbered c = sym (any_here _ _ c.loop-j.j c.loop-j-test.true (sym c.if-is-numbered.ensures))
+pub returns-then-is_numbered : goal.returns-then-is_numbered
+returns-then-is_numbered c = sym (any_here _ _ c.loop-j.j c.loop-j-test.true (sym c.if-is_numbered.ensures))
 
 pub loop-j-preserved : goal.loop-j-preserved
-loop-j-preserved c = any_past _ c.loop-j.j c.loop-j.invariant (sym c.if-is-numbered.ensures)
+loop-j-preserved c = any_past _ c.loop-j.j c.loop-j.invariant (sym c.if-is_numbered.ensures)

@@ -5,8 +5,8 @@ use Rattle.directory.proofs.accepted.Directory.is_named.Goals as goal
 pub loop-i-init : goal.loop-i-init
 loop-i-init c = any_none _
 
-pub returns-then-names-block : goal.returns-then-names-block
-returns-then-names-block c = sym (any_here _ _ c.loop-i.i c.loop-i-test.true (sym c.if-names-block.ensures))
+pub returns-then-names_block : goal.returns-then-names_block
+returns-then-names_block c = sym (any_here _ _ c.loop-i.i c.loop-i-test.true (sym c.if-names_block.ensures))
 
 pub loop-i-preserved : goal.loop-i-preserved
-loop-i-preserved c = any_past _ c.loop-i.i c.loop-i.invariant (sym c.if-names-block.ensures)
+loop-i-preserved c = any_past _ c.loop-i.i c.loop-i.invariant (sym c.if-names_block.ensures)

@@ -2,13 +2,13 @@ use Rattle.std.proofs.Common.{rules}
 use Rattle.directory.specs.Slots.{service_block}
 use Rattle.directory.proofs.accepted.Directory.is_service.Goals as goal
 
-pub returns-then-is-trailer : goal.returns-then-is-trailer
+pub returns-then-is_trailer : goal.returns-then-is_trailer
 unfolding service_block
-returns-then-is-trailer c = search rules
+returns-then-is_trailer c = search rules
 
-pub returns-then-not-is-service-sector : goal.returns-then-not-is-service-sector
+pub returns-then-not-is_service_sector : goal.returns-then-not-is_service_sector
 unfolding service_block
-returns-then-not-is-service-sector c = search rules
+returns-then-not-is_service_sector c = search rules
 
 pub returns : goal.returns
 unfolding service_block

@@ -6,9 +6,9 @@ pub returns-then-slot-eq0 : goal.returns-then-slot-eq0
 unfolding slot_wrong
 returns-then-slot-eq0 c = search rules
 
-pub returns-then-not-is-on-card : goal.returns-then-not-is-on-card
+pub returns-then-not-is_on_card : goal.returns-then-not-is_on_card
 unfolding slot_wrong
-returns-then-not-is-on-card c = search rules
+returns-then-not-is_on_card c = search rules
 
 pub returns : goal.returns
 unfolding slot_wrong

@@ -5,17 +5,17 @@ use Rattle.directory.specs.Searches.{any_of}
 use Rattle.directory.specs.Slots.{slot_wrong, number_is, wrong_slot_as, wrong_slot}
 use Rattle.directory.proofs.accepted.Directory.is_wrong_slot.Goals as goal
 
-pub returns-then-is-wrong : goal.returns-then-is-wrong
+pub returns-then-is_wrong : goal.returns-then-is_wrong
 unfolding wrong_slot
-returns-then-is-wrong c =
-    c.if-is-wrong.true ∙ sym (or_left (slot_wrong c.args.self.now c.in-Some.slot) _ (sym c.if-is-wrong.ensures))
+returns-then-is_wrong c =
+    c.if-is_wrong.true ∙ sym (or_left (slot_wrong c.args.self.now c.in-Some.slot) _ (sym c.if-is_wrong.ensures))
     ∙ ap (wrong_slot_as c.args.self.now c.args.i) c.in-Some.ensures
 
-pub returns-else-is-wrong : goal.returns-else-is-wrong
+pub returns-else-is_wrong : goal.returns-else-is_wrong
 unfolding wrong_slot
-returns-else-is-wrong c =
-    c.has-number.ensures
-    ∙ ap (λ b. b || any_of (λ j. number_is c.in-Some.slot.number (slot_at c.args.self.now.services j)) c.args.i) c.if-is-wrong.ensures
+returns-else-is_wrong c =
+    c.has_number.ensures
+    ∙ ap (λ b. b || any_of (λ j. number_is c.in-Some.slot.number (slot_at c.args.self.now.services j)) c.args.i) c.if-is_wrong.ensures
     ∙ ap (wrong_slot_as c.args.self.now c.args.i) c.in-Some.ensures
 
 pub returns-in-None : goal.returns-in-None
