@@ -13,5 +13,5 @@ loop-i-init c = c.new-text.ensures.bytes
 
 pub loop-i-preserved : goal.loop-i-preserved
 loop-i-preserved c =
-    let line = c.as-str.ensures.value ∙ c.in-ok-line.ensures ∙ ap slot_lines c.slot.ensures in
-    c.in-ok-push-str.ensures.bytes ∙ (λ j. c.loop-i.invariant j ++ line j) ∙ sym (lines_more c.args.directory.now.services c.loop-i.i)
+    let line = c.as_str.ensures.value ∙ c.in_ok-line.ensures ∙ ap slot_lines c.slot.ensures in
+    c.in_ok-push_str.ensures.bytes ∙ (λ j. c.loop-i.invariant j ++ line j) ∙ sym (lines_more c.args.directory.now.services c.loop-i.i)

@@ -9,4 +9,4 @@ returns g c =
     let room = c.args.room in
     let all : room - 0 ≡ room = omega arith in
     let filled : take (room - 0) (replicate 65535 0xEE) ≡ replicate room 0xEE = ap (λ n. take n (replicate 65535 0xEE)) all ∙ take-replicate {X = ℕ} room 65535 0xEE (omega arith) in
-    subst (λ b. ReadSaid k.blocks k.present k.steady c.args.number b c.args.station.now c.say-read.new.station c.say-read.result) filled c.say-read.ensures
+    subst (λ b. ReadSaid k.blocks k.present k.steady c.args.number b c.args.station.now c.say_read.new.station c.say_read.result) filled c.say_read.ensures

@@ -5,14 +5,14 @@ use Rattle.calls.specs.Words.{alike}
 use Rattle.calls.proofs.Passing.{pass_more, pass_here, pass_all}
 use Rattle.calls.proofs.words.count_front.Goals as goal
 
-pub returns-then-is-blank-blanks : goal.returns-then-is-blank-blanks
-returns-then-is-blank-blanks c =
-    let differs = ap (λ b. beq b c.args.blanks) (sym c.is-blank.ensures) ∙ not-true _ c.if-is-blank-blanks.true in
+pub returns-then-is_blank-blanks : goal.returns-then-is_blank-blanks
+returns-then-is_blank-blanks c =
+    let differs = ap (λ b. beq b c.args.blanks) (sym c.is_blank.ensures) ∙ not-true _ c.if-is_blank-blanks.true in
     record { value = pass_here (alike c.args.ends c.args.blanks) c.args.line.now c.loop-i.i c.loop-i.invariant c.loop-i-test.true differs; within = omega arith }
 
 pub loop-i-preserved : goal.loop-i-preserved
 loop-i-preserved c =
-    let same = ap (λ b. beq b c.args.blanks) (sym c.is-blank.ensures) ∙ not-false _ c.if-is-blank-blanks.false in
+    let same = ap (λ b. beq b c.args.blanks) (sym c.is_blank.ensures) ∙ not-false _ c.if-is_blank-blanks.false in
     pass_more (alike c.args.ends c.args.blanks) c.args.line.now c.loop-i.i c.loop-i.invariant c.loop-i-test.true same
 
 pub returns : goal.returns

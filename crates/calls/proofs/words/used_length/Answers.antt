@@ -2,7 +2,7 @@ use Rattle.std.proofs.Common.{◌≡◌, ◌+◌, ◌≤◌, true, cond, length,
 use Rattle.std.proofs.lemmas.Bool.{cond-true, cond-false}
 use Rattle.calls.specs.Words.{blank}
 use Rattle.calls.proofs.Passing.{used_more, used_all}
-use Rattle.calls.proofs.words.used_length.Goals.{then-not-is-blank, else-not-is-blank}
+use Rattle.calls.proofs.words.used_length.Goals.{then-not-is_blank, else-not-is_blank}
 use Rattle.calls.proofs.words.used_length.Goals as goal
 
 pub loop-i-preserved : goal.loop-i-preserved
@@ -10,13 +10,13 @@ loop-i-preserved c =
     let xs = c.args.line.now in
     let n = c.loop-i.length in
     let i = c.loop-i.i in
-    let m = c.if-not-is-blank.length in
+    let m = c.if-not-is_blank.length in
     let few = c.loop-i.invariant.1 in
-    let counts : m ≡ cond (blank true (get_or xs i 0)) n (i + 1) = elim c.if-not-is-blank.branch [
-      | then-not-is-blank w ↦ w.length-is ∙ sym (cond-false _ _ _ (sym c.is-blank.ensures ∙ w.if-not-is-blank.true))
-      | else-not-is-blank w ↦ w.length-is ∙ sym (cond-true _ _ _ (sym c.is-blank.ensures ∙ w.if-not-is-blank.false))
+    let counts : m ≡ cond (blank true (get_or xs i 0)) n (i + 1) = elim c.if-not-is_blank.branch [
+      | then-not-is_blank w ↦ w.length-is ∙ sym (cond-false _ _ _ (sym c.is_blank.ensures ∙ w.if-not-is_blank.true))
+      | else-not-is_blank w ↦ w.length-is ∙ sym (cond-true _ _ _ (sym c.is_blank.ensures ∙ w.if-not-is_blank.false))
     ] in
-    let bound : m ≤ i + 1 = elim c.if-not-is-blank.branch [ then-not-is-blank w ↦ omega (arith, w.length-is) | else-not-is-blank w ↦ omega (arith, w.length-is) ] in
+    let bound : m ≤ i + 1 = elim c.if-not-is_blank.branch [ then-not-is_blank w ↦ omega (arith, w.length-is) | else-not-is_blank w ↦ omega (arith, w.length-is) ] in
     (sym (used_more xs n m i c.loop-i-test.true counts) ∙ c.loop-i.invariant.0, bound)
 
 pub returns : goal.returns

@@ -8,20 +8,20 @@ use Rattle.full_listing.proofs.services.slot_lines.Goals as goal
 pub loop-i-init : goal.loop-i-init
 loop-i-init g c = let k = g.C.Card in (still_none k.blocks k.steady c.args.station.now, λ s. c.new-text.ensures.bytes ∙ sym (lines_none _ _ _))
 
-pub returns-in-err-line : goal.returns-in-err-line
-returns-in-err-line g c =
+pub returns-in_err-line : goal.returns-in_err-line
+returns-in_err-line g c =
     let k = g.C.Card in
     record {
-      still = still_then k.blocks k.steady c.loop-i.invariant.0 c.slot-text.ensures.still;
-      written = λ s. IfOk-from_err c.from-residual.result _ c.from-residual.ensures.0;
+      still = still_then k.blocks k.steady c.loop-i.invariant.0 c.slot_text.ensures.still;
+      written = λ s. IfOk-from_err c.from_residual.result _ c.from_residual.ensures.0;
     }
 
-pub returns-in-err-push-str : goal.returns-in-err-push-str
-returns-in-err-push-str g c =
+pub returns-in_err-push_str : goal.returns-in_err-push_str
+returns-in_err-push_str g c =
     let k = g.C.Card in
     record {
-      still = still_then k.blocks k.steady c.loop-i.invariant.0 c.slot-text.ensures.still;
-      written = λ s. IfOk-from_err c.from-residual-in-err-push-str.result _ c.from-residual-in-err-push-str.ensures.0;
+      still = still_then k.blocks k.steady c.loop-i.invariant.0 c.slot_text.ensures.still;
+      written = λ s. IfOk-from_err c.from_residual-in_err-push_str.result _ c.from_residual-in_err-push_str.ensures.0;
     }
 
 pub loop-i-preserved : goal.loop-i-preserved
@@ -32,11 +32,11 @@ loop-i-preserved g c =
     let i = c.loop-i.i in
     let p = c.args.station.now.profile in
     let b = k.blocks c.args.station.now.card in (
-      still_then k.blocks k.steady still c.slot-text.ensures.still,
+      still_then k.blocks k.steady still c.slot_text.ensures.still,
       λ s.
-          let line = c.as-str.ensures.value ∙ c.in-ok-line.ensures.written (still.firm s)
+          let line = c.as_str.ensures.value ∙ c.in_ok-line.ensures.written (still.firm s)
           ∙ same_text k.blocks k.steady (λ q blocks. slot_line q blocks c.slot.result) still ∙ ap (slot_line p b) c.slot.ensures in
-          c.in-ok-push-str.ensures.bytes ∙ (λ j. c.loop-i.invariant.1 s j ++ line j) ∙ sym (lines_more p b d i),
+          c.in_ok-push_str.ensures.bytes ∙ (λ j. c.loop-i.invariant.1 s j ++ line j) ∙ sym (lines_more p b d i),
     )
 
 pub returns : goal.returns

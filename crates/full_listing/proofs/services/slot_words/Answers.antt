@@ -12,8 +12,8 @@ unfolding slot_words
 returns c =
     IfOk-weaker c.words.result _ _
     (λ s e. e ∙ same_words _ _ _ _ _ _ _ _
-    (c.as-str.ensures.value ∙ c.in-ok-high.ensures)
-    (c.as-str-2.ensures.value ∙ c.in-ok-low.ensures)
-    (c.as-str-3.ensures.value ∙ c.in-ok-start.ensures)
-    (c.as-str-4.ensures.value ∙ c.in-ok-length.ensures))
+    (c.as_str.ensures.value ∙ c.in_ok-high.ensures)
+    (c.as_str-2.ensures.value ∙ c.in_ok-low.ensures)
+    (c.as_str-3.ensures.value ∙ c.in_ok-start.ensures)
+    (c.as_str-4.ensures.value ∙ c.in_ok-length.ensures))
     c.words.ensures

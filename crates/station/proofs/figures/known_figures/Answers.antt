@@ -2,4 +2,4 @@ use Rattle.station.proofs.KnownFigures.{together}
 use Rattle.station.proofs.figures.known_figures.Goals as goal
 
 pub returns : goal.returns
-returns c = record { answers = c.known-figures.ensures.answers; together = together }
+returns c = record { answers = c.known_figures.ensures.answers; together = together }

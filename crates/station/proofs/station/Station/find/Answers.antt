@@ -12,7 +12,7 @@ returns g c =
     let n = c.args.number in
     record {
       look = taken_then k.blocks k.present k.steady (λ _. judged (findable n)) (λ b _. then_look (check_look p b) (λ d. judged (found_in d n))) tt
-          (taken_none k.blocks k.present k.steady (findable n) c.args.self.now.card) (sym c.in-ok-judge-findable.ensures)
-          (taken_judge k.blocks k.present k.steady (check_look p) (λ _ d. found_in d n) c.in-ok-directory.directory c.in-ok-directory.ensures.look refl c.find-slot.ensures);
+          (taken_none k.blocks k.present k.steady (findable n) c.args.self.now.card) (sym c.in_ok-judge_findable.ensures)
+          (taken_judge k.blocks k.present k.steady (check_look p) (λ _ d. found_in d n) c.in_ok-directory.directory c.in_ok-directory.ensures.look refl c.find_slot.ensures);
       station = refl;
     }
