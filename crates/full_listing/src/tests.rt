@@ -4,7 +4,7 @@ use card::{Card, ImageCard, Laid, Plan, TearCard, Torn};
 use directory::{Directory, check_card};
 use layout::{Crc8, Image, Profile, Refusal, checksum};
 use station::Station;
-use std::process::Abort;
+use std::alloc::Global;
 use std::test::*;
 
 // The data of the sample's service: one object, tag 5F20, format byte 01, data AB.
@@ -91,16 +91,24 @@ fn sample_d(edits: &[(u16, u8)]) -> Image {
 }
 
 fn check_record(
-    rt: HostRuntime,
+    alloc: Global,
     letter: &str,
     bytes: &[u8],
     accepted: bool,
     expected: &str,
 ) -> Result<(), Fail> {
-    let listing = list(rt.alloc(), letter, bytes)?;
-    assert_eq!(listing.accepted, accepted);
-    assert_eq!(listing.text.as_str(), expected);
-    Ok(())
+    let listing = list(alloc, letter, bytes)?;
+    check_eq(listing.accepted, accepted, expected)?;
+    check_eq(listing.text.as_str(), expected, expected)
+}
+
+// Fails with some words unless two values are the same.
+fn check_eq<T: PartialEq + Drop>(found: T, expected: T, words: &str) -> Result<(), Fail> {
+    if found == expected {
+        Ok(())
+    } else {
+        Err(Fail::new(words))
+    }
 }
 
 // Letters that are judged after the image's size, and what is said of the sample under each.
@@ -118,12 +126,12 @@ const LETTERS: [(&str, bool, &str); 7] = [
 fn records(rt: HostRuntime) -> Result<(), Fail> {
     let card = sample();
     for (letter, accepted, text) in LETTERS {
-        check_record(rt, letter, &card, accepted, text)?;
+        check_record(rt.alloc(), letter, &card, accepted, text)?;
     }
-    check_record(rt, "F", &card[0..4095], false, "refused 28\n")?;
-    check_record(rt, "A", &[], false, "refused 28\n")?;
+    check_record(rt.alloc(), "F", &card[0..4095], false, "refused 28\n")?;
+    check_record(rt.alloc(), "A", &[], false, "refused 28\n")?;
     let wrong = broken(&[(47, 0x41)]);
-    check_record(rt, "A", &wrong, false, "profile A\nrefused 4\n")
+    check_record(rt.alloc(), "A", &wrong, false, "profile A\nrefused 4\n")
 }
 
 // Changes to an accepted card, and the lines of its services.
@@ -168,7 +176,7 @@ const SERVICES: [(Edits, &str); 7] = [
 #[test]
 fn service_lines(rt: HostRuntime) -> Result<(), Fail> {
     for (edits, text) in SERVICES {
-        check_record(rt, "A", &altered(edits), true, text)?;
+        check_record(rt.alloc(), "A", &altered(edits), true, text)?;
     }
     Ok(())
 }
@@ -190,27 +198,38 @@ fn verdict(letter: &str, image: Image) -> Result<Directory, Refusal> {
 }
 
 fn check_verdict(
-    rt: &impl Abort,
     letter: &str,
     image: Image,
     number: u8,
     place: usize,
+    words: &str,
 ) -> Result<(), Fail> {
-    assert_eq!(rt; refused(verdict(letter, image)), (number, place));
-    Ok(())
+    check_eq(refused(verdict(letter, image)), (number, place), words)
 }
 
 #[test]
 fn application_directory(rt: HostRuntime) -> Result<(), Fail> {
-    check_verdict(&rt, "F", sample(), 1, 0)?;
-    check_verdict(&rt, "A", altered(&[]), 0, 0)?;
-    check_verdict(&rt, "D", sample_d(&[]), 0, 0)?;
-    check_verdict(&rt, "A", broken(&[(57, 0xC2)]), 3, 3)?;
-    check_verdict(&rt, "D", sample_d(&[(1081, 0xC1)]), 3, 67)?;
-    check_verdict(&rt, "A", broken(&[(17, 1)]), 4, 1)?;
-    check_verdict(&rt, "A", altered(&[(18, 0x12)]), 5, 0)?;
-    check_verdict(&rt, "A", altered(&[(20, 0x11)]), 5, 0)?;
-    check_verdict(&rt, "D", sample_d(&[(1026, 0x12), (1056, 0x11)]), 5, 0)
+    check_verdict("F", sample(), 1, 0, "application directory")?;
+    check_verdict("A", altered(&[]), 0, 0, "application directory")?;
+    check_verdict("D", sample_d(&[]), 0, 0, "application directory")?;
+    check_verdict("A", broken(&[(57, 0xC2)]), 3, 3, "application directory")?;
+    check_verdict(
+        "D",
+        sample_d(&[(1081, 0xC1)]),
+        3,
+        67,
+        "application directory",
+    )?;
+    check_verdict("A", broken(&[(17, 1)]), 4, 1, "application directory")?;
+    check_verdict("A", altered(&[(18, 0x12)]), 5, 0, "application directory")?;
+    check_verdict("A", altered(&[(20, 0x11)]), 5, 0, "application directory")?;
+    check_verdict(
+        "D",
+        sample_d(&[(1026, 0x12), (1056, 0x11)]),
+        5,
+        0,
+        "application directory",
+    )
 }
 
 // Changes to the sample card, what they make wrong in the NSCP directory, and the number and place of the refusal.
@@ -231,9 +250,9 @@ const NSCP: [(Edits, &str, u8, usize); 12] = [
 
 #[test]
 fn nscp_directory(rt: HostRuntime) -> Result<(), Fail> {
-    check_verdict(&rt, "A", broken(&[(111, 1)]), 6, 4).note("checksum")?;
+    check_verdict("A", broken(&[(111, 1)]), 6, 4, "checksum")?;
     for (edits, wrong, number, place) in NSCP {
-        check_verdict(&rt, "A", altered(edits), number, place).note(wrong)?;
+        check_verdict("A", altered(edits), number, place, wrong)?;
     }
     Ok(())
 }
@@ -268,12 +287,12 @@ const SLOTS: [(Edits, &str, u8, usize); 9] = [
 
 #[test]
 fn services_directory(rt: HostRuntime) -> Result<(), Fail> {
-    check_verdict(&rt, "A", broken(&[(175, 1)]), 9, 8).note("checksum")?;
+    check_verdict("A", broken(&[(175, 1)]), 9, 8, "checksum")?;
     for (edits, wrong, number, place) in SLOTS {
-        check_verdict(&rt, "A", altered(edits), number, place).note(wrong)?;
+        check_verdict("A", altered(edits), number, place, wrong)?;
     }
     let past = sample_d(&[(1156, 1), (1158, 253), (1159, 3)]);
-    check_verdict(&rt, "D", past, 10, 1).note("past rank 215")
+    check_verdict("D", past, 10, 1, "past rank 215")
 }
 
 // The blocks that the check of the sample reads, in their order.
@@ -307,8 +326,11 @@ fn a_card_that_leaves(rt: HostRuntime) -> Result<(), Fail> {
 // A run of four blocks, with a trailer after its third.
 const RUN: [usize; 4] = [12, 13, 14, 16];
 
+// What is said where one of these tests fails.
+const IN_A_RUN: &str = "a card that leaves in a run";
+
 // What is in a buffer of five blocks whose first `blocks` were read: the data, 00 after it, and then the old bytes.
-fn check_buffer(rt: &impl Abort, buffer: &[u8; 80], blocks: usize) -> Result<(), Fail> {
+fn check_buffer(buffer: &[u8; 80], blocks: usize) -> Result<(), Fail> {
     for i in 0..80usize {
         let expected = if i / 16 >= blocks {
             0xEE
@@ -317,36 +339,40 @@ fn check_buffer(rt: &impl Abort, buffer: &[u8; 80], blocks: usize) -> Result<(),
         } else {
             0
         };
-        assert_eq!(rt; buffer[i], expected);
+        check_eq(buffer[i], expected, IN_A_RUN)?;
     }
     Ok(())
 }
 
 // Reads the service from a card that goes while block `i` of its run is read, lays the card again, and reads once more.
-fn check_leaving_run(rt: &impl Abort, i: u8, block: usize) -> Result<(), Fail> {
+fn check_leaving_run(i: u8, block: usize) -> Result<(), Fail> {
     let mut image = altered(&[(135, 4)]);
     let card = TearCard::new(&mut image, going(9 + i as u32, 2));
     let mut station = Station::new(Profile::A, card, 1, 0);
     let mut buffer = [0xEE; 80];
-    assert_eq!(rt; refused(station.read(0x1234, &mut buffer)), (2, block));
-    check_buffer(rt, &buffer, i as usize)?;
-    assert_eq!(rt; station.lay(), Laid::No);
-    assert_eq!(rt; refused(station.read(0x1234, &mut buffer)), (2, 3));
-    assert_eq!(rt; station.lay(), Laid::No);
-    check_buffer(rt, &buffer, i as usize)?;
-    assert_eq!(rt; station.lay(), Laid::Yes);
+    check_eq(
+        refused(station.read(0x1234, &mut buffer)),
+        (2, block),
+        IN_A_RUN,
+    )?;
+    check_buffer(&buffer, i as usize)?;
+    check_eq(station.lay(), Laid::No, IN_A_RUN)?;
+    check_eq(refused(station.read(0x1234, &mut buffer)), (2, 3), IN_A_RUN)?;
+    check_eq(station.lay(), Laid::No, IN_A_RUN)?;
+    check_buffer(&buffer, i as usize)?;
+    check_eq(station.lay(), Laid::Yes, IN_A_RUN)?;
     let reading = station.read(0x1234, &mut buffer)?;
-    assert_eq!(rt; reading.tag, 0xE0);
-    assert_eq!(rt; reading.start, 2);
-    assert_eq!(rt; reading.length, 6);
-    assert_eq!(rt; reading.objects, 1);
-    check_buffer(rt, &buffer, 4)
+    check_eq(reading.tag, 0xE0, IN_A_RUN)?;
+    check_eq(reading.start, 2, IN_A_RUN)?;
+    check_eq(reading.length, 6, IN_A_RUN)?;
+    check_eq(reading.objects, 1, IN_A_RUN)?;
+    check_buffer(&buffer, 4)
 }
 
 #[test]
 fn a_card_that_leaves_in_a_run(rt: HostRuntime) -> Result<(), Fail> {
     for i in 0..4u8 {
-        check_leaving_run(&rt, i, RUN[i as usize])?;
+        check_leaving_run(i, RUN[i as usize])?;
     }
     Ok(())
 }

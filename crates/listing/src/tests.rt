@@ -3,7 +3,8 @@ use crate::{is_accepted, list, record_of};
 use card::{Plan, TearCard, Torn};
 use directory::check_card;
 use layout::{Crc8, Image, Profile, checksum};
-use std::test::*;
+use std::alloc::Global;
+use std::test::Fail;
 
 // A card of profile A with one service: block 1 and 2 the MAD, block 3 its trailer, block 4 the NSCP directory, block 8 the services directory, block 12 the service.
 fn sample() -> Image {
@@ -26,30 +27,38 @@ fn sample() -> Image {
     image
 }
 
-fn check_record(rt: HostRuntime, letter: &str, bytes: &[u8], expected: &str) -> Result<(), Fail> {
+fn check_record(alloc: Global, letter: &str, bytes: &[u8], expected: &str) -> Result<(), Fail> {
     let listing = list(letter, bytes);
-    let record = record_of(rt.alloc(), &listing)?;
-    assert_eq!(record.as_str(), expected);
-    Ok(())
+    let record = record_of(alloc, &listing)?;
+    check_eq(record.as_str(), expected)
+}
+
+// Fails unless two texts are the same.
+fn check_eq(found: &str, expected: &str) -> Result<(), Fail> {
+    if found == expected {
+        Ok(())
+    } else {
+        Err(Fail::new(expected))
+    }
 }
 
 #[test]
 fn records(rt: HostRuntime) -> Result<(), Fail> {
     let card = sample();
     assert!(rt; is_accepted(&list("A", &card)));
-    check_record(rt, "A", &card, "profile A\n1234 0C 01\nfree 38\n")?;
-    check_record(rt, "E", &card, "profile E\n1234 0C 01\nfree 98\n")?;
-    check_record(rt, "D", &card, "profile D\nrefused 3\n")?;
-    check_record(rt, "F", &card, "refused 1\n")?;
-    check_record(rt, "a", &card, "refused 1\n")?;
-    check_record(rt, "AA", &card, "refused 1\n")?;
-    check_record(rt, "", &card, "refused 1\n")?;
-    check_record(rt, "F", &card[0..4095], "refused 28\n")?;
-    check_record(rt, "A", &[], "refused 28\n")?;
+    check_record(rt.alloc(), "A", &card, "profile A\n1234 0C 01\nfree 38\n")?;
+    check_record(rt.alloc(), "E", &card, "profile E\n1234 0C 01\nfree 98\n")?;
+    check_record(rt.alloc(), "D", &card, "profile D\nrefused 3\n")?;
+    check_record(rt.alloc(), "F", &card, "refused 1\n")?;
+    check_record(rt.alloc(), "a", &card, "refused 1\n")?;
+    check_record(rt.alloc(), "AA", &card, "refused 1\n")?;
+    check_record(rt.alloc(), "", &card, "refused 1\n")?;
+    check_record(rt.alloc(), "F", &card[0..4095], "refused 28\n")?;
+    check_record(rt.alloc(), "A", &[], "refused 28\n")?;
     let mut wrong = card;
     wrong[47] = 0x41;
     assert!(rt; !is_accepted(&list("A", &wrong)));
-    check_record(rt, "A", &wrong, "profile A\nrefused 4\n")
+    check_record(rt.alloc(), "A", &wrong, "profile A\nrefused 4\n")
 }
 
 // Gives a directory the seal of its bytes.

@@ -3,7 +3,6 @@ use crate::frames::read_frame;
 use crate::objects::{Object, count_objects, next_object};
 use crate::writing::write_frame;
 use layout::{Crc16, Refusal, checksum};
-use std::process::Abort;
 use std::test::Fail;
 
 // One object, tag 5F20, format byte 01, data AB.
@@ -19,8 +18,17 @@ fn refused<T: Drop>(answer: Result<T, Refusal>) -> (u8, usize) {
     }
 }
 
-fn check_run(rt: &impl Abort, run: &[u8], number: u8, place: usize) {
-    assert_eq!(rt; refused(read_frame(run)), (number, place));
+fn check_run(run: &[u8], number: u8, place: usize) -> Result<(), Fail> {
+    check_eq(refused(read_frame(run)), (number, place))
+}
+
+// Fails unless two values are the same.
+fn check_eq<T: PartialEq + Drop>(found: T, expected: T) -> Result<(), Fail> {
+    if found == expected {
+        Ok(())
+    } else {
+        Err(Fail::new("two values differ"))
+    }
 }
 
 // A run with four content bytes and the right checksum.
@@ -66,33 +74,33 @@ fn frames(rt: HostRuntime) -> Result<(), Fail> {
     assert_eq!(rt; frame.objects, 1);
     assert_eq!(rt; count_objects(frame.content)?, 1);
     for (run, place) in HEADERS {
-        check_run(&rt, &run, 13, place);
+        check_run(&run, 13, place)?;
     }
-    check_run(&rt, &[], 13, 0);
-    check_run(&rt, &[0xE0], 13, 1);
-    check_run(&rt, &[0x65, 0x81], 13, 1);
-    check_run(&rt, &SAMPLE[0..11], 13, 8);
-    check_run(&rt, &[0xE0, 0x00, 0xC0, 0x02, 0x36, 0x3C], 0, 0);
-    check_run(&rt, &[0xE0, 0x00, 0xC0, 0x02, 0x36], 13, 2);
+    check_run(&[], 13, 0)?;
+    check_run(&[0xE0], 13, 1)?;
+    check_run(&[0x65, 0x81], 13, 1)?;
+    check_run(&SAMPLE[0..11], 13, 8)?;
+    check_run(&[0xE0, 0x00, 0xC0, 0x02, 0x36, 0x3C], 0, 0)?;
+    check_run(&[0xE0, 0x00, 0xC0, 0x02, 0x36], 13, 2)?;
     let mut run = SAMPLE;
     run[9] = 0x03;
-    check_run(&rt, &run, 13, 8);
+    check_run(&run, 13, 8)?;
     run = SAMPLE;
     run[11] = 0x81;
-    check_run(&rt, &run, 14, 10);
+    check_run(&run, 14, 10)?;
     run = SAMPLE;
     run[12] = 1;
     run[15] = 1;
-    check_run(&rt, &run, 16, 12);
+    check_run(&run, 16, 12)?;
     run[12] = 0;
-    check_run(&rt, &run, 16, 15);
+    check_run(&run, 16, 15)?;
     Ok(())
 }
 
 #[test]
 fn contents(rt: HostRuntime) -> Result<(), Fail> {
     for (content, number, place) in CONTENTS {
-        check_run(&rt, &run_of(content), number, place);
+        check_run(&run_of(content), number, place)?;
     }
     assert_eq!(rt; refused(next_object(&[0xC1, 0x01, 0x05], 4)), (15, 4));
     assert_eq!(rt; refused(next_object(&[0xC1, 0x01, 0x05], 1)), (15, 1));
@@ -108,7 +116,7 @@ fn contents(rt: HostRuntime) -> Result<(), Fail> {
         ) => {
             assert_eq!(rt; tag, 0x5F20);
             assert_eq!(rt; format, 1);
-            assert_eq!(rt; data, b"AB");
+            assert_eq!(rt; data, b"AB".as_slice());
             assert_eq!(rt; next, 6);
             Ok(())
         }
@@ -126,28 +134,28 @@ fn content_of(tag: u8, length: u8, more: u8) -> [u8; 256] {
 }
 
 // Writes, reads back, and counts the blocks.
-fn check_written(rt: &impl Abort, content: &[u8], start: usize, blocks: u8) -> Result<(), Fail> {
+fn check_written(content: &[u8], start: usize, blocks: u8) -> Result<(), Fail> {
     let mut run = [0xEE; 272];
     let written = write_frame(0x65, content, &mut run)?;
-    assert_eq!(rt; written, blocks);
+    check_eq(written, blocks)?;
     let frame = read_frame(&run[0..16 * written as usize])?;
-    assert_eq!(rt; frame.tag, 0x65);
-    assert_eq!(rt; frame.start, start);
-    assert_eq!(rt; frame.content, content);
+    check_eq(frame.tag, 0x65)?;
+    check_eq(frame.start, start)?;
+    check_eq(frame.content, content)?;
     if written < 17 {
-        assert_eq!(rt; run[16 * written as usize], 0xEE);
+        check_eq(run[16 * written as usize], 0xEE)?;
     }
     Ok(())
 }
 
 #[test]
 fn writes(rt: HostRuntime) -> Result<(), Fail> {
-    check_written(&rt, &[], 2, 1)?;
-    check_written(&rt, &content_of(0xC1, 8, 1)[0..10], 2, 1)?;
-    check_written(&rt, &content_of(0xC1, 9, 1)[0..11], 2, 2)?;
-    check_written(&rt, &content_of(0xC1, 125, 1)[0..127], 2, 9)?;
-    check_written(&rt, &content_of(0xC1, 126, 1)[0..128], 3, 9)?;
-    check_written(&rt, &content_of(0xC1, 0x81, 252)[0..255], 3, 17)?;
+    check_written(&[], 2, 1)?;
+    check_written(&content_of(0xC1, 8, 1)[0..10], 2, 1)?;
+    check_written(&content_of(0xC1, 9, 1)[0..11], 2, 2)?;
+    check_written(&content_of(0xC1, 125, 1)[0..127], 2, 9)?;
+    check_written(&content_of(0xC1, 126, 1)[0..128], 3, 9)?;
+    check_written(&content_of(0xC1, 0x81, 252)[0..255], 3, 17)?;
     let mut run = [0xEE; 272];
     assert_eq!(rt; refused(write_frame(0xE1, &[], &mut run)), (18, 0));
     assert_eq!(rt; refused(write_frame(0xE0, &[0xC1], &mut run)), (19, 0));
