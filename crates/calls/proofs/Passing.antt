@@ -1,8 +1,8 @@
 -- How many bytes at the front of a line pass a test, counted one by one. Assumes nothing.
-use Rattle.std.proofs.Common.{◌≡◌, ℕ, suc, ◌+◌, ◌<◌, ◌≤◌, Bool, true, false, cond, List, length, get_or, drop, sym, ap, ◌∙◌, add-zero, zero-add, add-one, arith}
+use Rattle.std.proofs.Common.{◌≡◌, ℕ, suc, ◌+◌, ◌<◌, ◌≤◌, Bool, true, false, cond, List, length, get_or, drop, sym, ap, ◌∙◌, zero-add, add-one, arith}
 use Rattle.std.proofs.lemmas.List.{drop_more, drop_all}
 use Rattle.std.proofs.lemmas.Bool.{cond-true, cond-false}
-use Rattle.calls.specs.Words.{blank, passing, used_from, used}
+use Rattle.calls.specs.Words.{blank, passing, used_from}
 
 module _ (test : ℕ → Bool) (xs : List ℕ) where
   pub pass_none : passing test xs ≡ 0 + passing test xs

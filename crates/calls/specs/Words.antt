@@ -1,5 +1,5 @@
 -- The words of a line. Assumes nothing.
-use Rattle.std.specs.Prelude.{ℕ, zero, suc, Bool, true, false, cond, ◌&&◌, ◌||◌, List, [], ◌∷◌, take, drop, ◌==◌}
+use Rattle.std.specs.Prelude.{ℕ, suc, Bool, true, false, cond, ◌&&◌, ◌||◌, List, [], ◌∷◌, take, drop, ◌==◌}
 use Rattle.std.specs.Bool.{beq}
 
 -- space or tab; at the ends of a line also a carriage return

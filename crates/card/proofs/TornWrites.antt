@@ -1,5 +1,5 @@
 -- The write that is broken off. Assumes nothing.
-use Rattle.std.proofs.Common.{◌≡◌, ℕ, zero, suc, true, false, sym, refl, ap, ◌∙◌}
+use Rattle.std.proofs.Common.{◌≡◌, ℕ, zero, suc, false, sym, ap, ◌∙◌}
 use Rattle.std.proofs.lemmas.Bool.{true≢false}
 use Rattle.card.specs.Tears.{is_answered}
 use Rattle.card.specs.declared.tear.Phase.{Phase}

@@ -1,6 +1,5 @@
 -- The plan of a card that leaves once, and what each call makes of it. Assumes nothing.
 use Rattle.std.specs.Prelude.{◌≡◌, ℕ, zero, suc, Bool, true, false, cond, List}
-use Rattle.card.specs.Answers.{is_yes}
 use Rattle.card.specs.Blocks.{Blocks, put, blocks_of}
 use Rattle.card.specs.declared.interface.Laid.{Laid}
 use Rattle.card.specs.declared.interface.Laid.TheVariants.{Yes, No}

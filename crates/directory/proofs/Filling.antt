@@ -1,12 +1,10 @@
 -- Blocks read into a buffer, one after another. Assumes nothing.
-use Rattle.std.proofs.Common.{◌≡◌, ℕ, zero, suc, ◌+◌, ◌-◌, ◌*◌, ◌<◌, ◌≤◌, Bool, true, false, not, ◌&&◌, List, [], ◌∷◌, ◌++◌, length, get_or, take, drop, is_some, Some, None, Ok, Err, Option, sym, refl, ap, ◌∙◌, subst, ⊎_elim, append_assoc, append-nil, arith, length-append, length-take}
+use Rattle.std.proofs.Common.{◌≡◌, ℕ, zero, suc, ◌+◌, ◌-◌, ◌*◌, ◌<◌, ◌≤◌, Bool, true, false, not, ◌&&◌, List, [], ◌∷◌, ◌++◌, length, get_or, take, is_some, Some, Ok, Err, sym, refl, ap, ◌∙◌, ⊎_elim, append_assoc, append-nil, arith, length-append, length-take}
 use native.Mathlib.Nat.{min-eq_left}
-use lib.Seq.{take-append_seam}
 use borrow.Rule.Slice.PartMut.{put_mid}
 use Rattle.std.proofs.lemmas.List.{take_all, take_more}
-use Rattle.std.proofs.lemmas.Slice.{put_mid-paste, drop-append-drop}
 use Rattle.std.proofs.lemmas.Option.{slice_get-get_or as nth-getD, slice_get_past}
-use Rattle.std.proofs.lemmas.Bool.{cases_Bool, cases_lt, both_ways, true≢false}
+use Rattle.std.proofs.lemmas.Bool.{cases_Bool, cases_lt, both_ways}
 use Rattle.std.specs.List.{slice_get}
 use Rattle.layout.specs.Buffers.{overlaid}
 use Rattle.layout.proofs.Overlaid.{put_behind}
@@ -14,8 +12,8 @@ use Rattle.layout.specs.Refusals.{refusal, Answer}
 use Rattle.layout.specs.declared.refusals.Reason.TheVariants.{CardGone}
 use Rattle.layout.specs.declared.refusals.Refusal.{Refusal}
 use Rattle.card.specs.Blocks.{Blocks}
-use Rattle.directory.specs.Looks.{Look, lost_at, unless_lost, Looked, Taken}
-use Rattle.directory.specs.Reads.{block_look, touch_look, joined, Filled}
+use Rattle.directory.specs.Looks.{lost_at, unless_lost, Taken}
+use Rattle.directory.specs.Reads.{block_look, joined, Filled}
 
 and_true : (b : Bool) → (b && true) ≡ b
 and_true true = refl

@@ -1,5 +1,5 @@
 -- A look depends only on the blocks that it reads. Assumes nothing.
-use Rattle.std.proofs.Common.{◌≡◌, ℕ, List, [], ◌∷◌, ◌++◌, Ok, Err, sym, refl, ap, ◌∙◌, subst, append-nil}
+use Rattle.std.proofs.Common.{◌≡◌, ℕ, List, [], ◌∷◌, ◌++◌, Ok, Err, sym, refl, ap, ◌∙◌, subst}
 use Rattle.layout.specs.Blocks.{first_of}
 use Rattle.layout.specs.Profiles.{mad_of}
 use Rattle.layout.specs.Refusals.{Answer, then}

@@ -1,5 +1,5 @@
 -- One altered byte of an accepted directory meets its checksum refusal. Assumes nothing.
-use Rattle.std.proofs.Common.{◌≡◌, ℕ, ◌+◌, ◌*◌, ◌<◌, ◌≤◌, Bool, true, false, cond, ◌&&◌, eqb, ltb, ◌⊎◌, List, [], ◌∷◌, ◌++◌, Some, Ok, Err, sym, refl, ap, ◌∙◌, subst, inl, inr, ⊎_elim, append-nil, arith}
+use Rattle.std.proofs.Common.{◌≡◌, ℕ, ◌+◌, ◌*◌, ◌<◌, ◌≤◌, Bool, true, false, ◌&&◌, eqb, ◌⊎◌, List, [], ◌∷◌, ◌++◌, Some, Ok, Err, sym, refl, ap, ◌∙◌, subst, inl, inr, ⊎_elim, append-nil, arith}
 use Rattle.std.proofs.lemmas.Bool.{and_parts, eqb-true, cond-true, cond-false, lt-ltb, cases_lt}
 use Rattle.std.proofs.lemmas.Bool.Decides.{nat_tests}
 use Rattle.std.specs.List.{slice_get, range_with_len}
@@ -12,15 +12,13 @@ use Rattle.layout.specs.declared.numbers.Block.{Block}
 use Rattle.layout.specs.declared.numbers.Sector.{Sector}
 use Rattle.layout.specs.declared.profiles.Profile.{Profile}
 use Rattle.layout.specs.declared.profiles.Profile.TheVariants.{A, B, C, D, E}
-use Rattle.layout.specs.declared.refusals.Reason.{Reason}
 use Rattle.layout.specs.declared.refusals.Reason.TheVariants.{MadChecksum, NscpChecksum, ServicesChecksum}
-use Rattle.layout.specs.declared.refusals.Refusal.{Refusal}
-use Rattle.layout.proofs.Below.{below, at}
+use Rattle.layout.proofs.Below.{at}
 use Rattle.card.specs.Blocks.{Blocks, put}
 use Rattle.directory.specs.Checks.{nscp_accepted, nscp_look_at, nscp_look, together, accepted, services_look, rest_look, check_look, verdict}
 use Rattle.directory.specs.Judged.{trailer_judged, seal_judged, sealed_look, mad_look}
-use Rattle.directory.specs.Laws.{Agree, BlockOf, Altered, OneAlteredByte}
-use Rattle.directory.specs.Looks.{Look, touches_after}
+use Rattle.directory.specs.Laws.{Agree, BlockOf, OneAlteredByte}
+use Rattle.directory.specs.Looks.{touches_after}
 use Rattle.directory.specs.Nscp.{nscp_sector_judged, nscp_judged}
 use Rattle.directory.specs.Reads.{run_touches, joined}
 use Rattle.directory.specs.Seals.{sealed}
@@ -29,7 +27,7 @@ use Rattle.directory.specs.Slots.{slots_judged}
 use Rattle.directory.specs.declared.accepted.Directory.{Directory}
 use Rattle.directory.specs.declared.accepted.Nscp.{Nscp}
 use Rattle.directory.proofs.Altered.{Absent, Once, agree_absent, put_away, altered_unsealed, nth_counting, nth_counting_lt, once_counting, absent_counted}
-use Rattle.directory.proofs.DirectoryPlaces.{cond_ok, nscp_small, services_small, ServicesPlace, services_place}
+use Rattle.directory.proofs.DirectoryPlaces.{cond_ok, nscp_small, services_small, services_place}
 use Rattle.directory.proofs.Locality.{Local, local_mad, local_nscp}
 
 -- the parts of an answer that was accepted

@@ -1,8 +1,8 @@
 -- Entries that are there, unused or past the end. Assumes nothing.
-use Rattle.std.proofs.Common.{◌≡◌, ℕ, ◌+◌, ◌*◌, ◌<◌, ◌≤◌, true, false, leb, List, Some, None, ◌∙◌}
+use Rattle.std.proofs.Common.{◌≡◌, ℕ, ◌+◌, ◌*◌, ◌<◌, ◌≤◌, List, None}
 use Rattle.std.proofs.lemmas.Bool.{cond-true, cond-false, le-leb, lt-leb}
 use Rattle.std.specs.List.{between}
-use Rattle.directory.specs.Entries.{unused, parsed, entry_at}
+use Rattle.directory.specs.Entries.{parsed, entry_at}
 
 module _ {E : Type 0} (header wide : ℕ) (parse : List ℕ → E) (directory : List ℕ) (i : ℕ) where
   pub entry_past : 48 < header + i * wide + wide → entry_at header wide parse directory i ≡ None

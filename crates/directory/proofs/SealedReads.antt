@@ -2,7 +2,6 @@
 use Rattle.std.proofs.Common.{◌≡◌, ℕ, ◌-◌, ◌*◌, ◌≤◌, Bool, true, false, leb, List, length, take, drop, replicate, Ok, Err, sym, refl, ap, ◌∙◌, subst, arith}
 use lib.Seq.{take-append_seam}
 use Rattle.std.proofs.lemmas.Bool.{and_from, cond-true, cond-false, le-leb}
-use Rattle.layout.specs.Buffers.{overlaid}
 use Rattle.layout.specs.Refusals.{refusal, Answer}
 use Rattle.layout.specs.Runs.{on_card}
 use Rattle.layout.specs.declared.refusals.Reason.{Reason}

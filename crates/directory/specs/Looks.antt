@@ -1,5 +1,5 @@
 -- Calls that only read: which blocks they ask for, in which order, and what they answer when the card stays or goes. Assumes nothing.
-use Rattle.std.specs.Prelude.{◌≡◌, ℕ, Bool, false, not, ◌&&◌, List, [], ◌∷◌, ◌++◌, is_some, Some, None, Ok, Err, Option}
+use Rattle.std.specs.Prelude.{◌≡◌, ℕ, Bool, false, not, ◌&&◌, List, [], ◌++◌, is_some, Some, None, Ok, Err, Option}
 use Rattle.std.specs.List.{slice_get}
 use Rattle.layout.specs.Refusals.{refuse, Answer, then}
 use Rattle.layout.specs.declared.refusals.Reason.TheVariants.{CardGone}

@@ -1,5 +1,5 @@
 -- The NSCP directory: in which sector it stands, and when an item of it is wrong. Assumes nothing.
-use Rattle.std.specs.Prelude.{ℕ, ◌+◌, Bool, true, false, cond, not, ◌&&◌, ◌||◌, List, Some, None, Ok, Option, ◌==◌, slice_index}
+use Rattle.std.specs.Prelude.{ℕ, ◌+◌, Bool, false, cond, not, ◌&&◌, ◌||◌, List, Some, None, Ok, Option, ◌==◌, slice_index}
 use Rattle.layout.specs.Blocks.{position_of, trailer, to_sector}
 use Rattle.layout.specs.Profiles.{mad_of, nscp_sectors, within}
 use Rattle.layout.specs.Refusals.{refuse, Answer}

@@ -1,5 +1,5 @@
 -- A station that is as it was, over several calls, and the lines that were written in between. Assumes nothing.
-use Rattle.std.proofs.Common.{◌≡◌, ℕ, ◌+◌, List, [], ◌++◌, sym, refl, ap, ◌∙◌, add-one}
+use Rattle.std.proofs.Common.{◌≡◌, ℕ, ◌+◌, List, [], ◌++◌, refl, ◌∙◌, add-one}
 use Rattle.layout.specs.declared.profiles.Profile.{Profile}
 use Rattle.card.specs.Blocks.{Blocks}
 use Rattle.directory.specs.Entries.{slot_at}

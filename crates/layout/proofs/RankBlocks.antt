@@ -5,7 +5,7 @@ use Rattle.std.proofs.lemmas.Bool.{eqb-true, leb-true, and_parts, not-true, or_c
 use Rattle.std.proofs.lemmas.Option.{slice_get_past}
 use Rattle.layout.specs.Blocks.{rank_of, sector_of, trailer, data_from, data_block, Ranked, to_block}
 use Rattle.layout.specs.declared.numbers.Block.{Block}
-use Rattle.layout.proofs.Below.{below, at, same_at, some_at, holds, holds_some}
+use Rattle.layout.proofs.Below.{at, same_at, some_at, holds, holds_some}
 
 -- one trailer for each sector below
 pub rank_is : (b : ℕ) → b < 256 → b - sector_of b ≡ rank_of b

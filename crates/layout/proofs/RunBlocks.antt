@@ -1,5 +1,5 @@
 -- The blocks of a run. Assumes nothing.
-use Rattle.std.proofs.Common.{◌≡◌, ℕ, ◌+◌, ◌-◌, ◌<◌, ◌≤◌, Bool, true, false, cond, not, ◌&&◌, ltb, leb, is_some, Some, None, Decides, sym, refl, ap, ◌∙◌, ⊎_elim, add-zero, arith}
+use Rattle.std.proofs.Common.{◌≡◌, ℕ, ◌+◌, ◌-◌, ◌<◌, ◌≤◌, Bool, true, false, not, ◌&&◌, ltb, leb, is_some, Some, None, Decides, sym, refl, ap, ◌∙◌, ⊎_elim, add-zero, arith}
 use Rattle.std.proofs.lemmas.Bool.{lt-ltb, le-ltb, cond-true, cond-false, and_from, and_left, and_right, not_from_true, not_from_false, cases_lt, false≢true, and_parts, ltb-true}
 use Rattle.layout.specs.Blocks.{trailer, rank_of, data_block}
 use Rattle.layout.specs.Runs.{run_block, on_card, OnCard, runs_meet, Shared}

@@ -1,5 +1,5 @@
 -- Where the 256 blocks of a card lie: sectors, trailers, data blocks and their ranks. Assumes nothing.
-use Rattle.std.specs.Prelude.{◌≡◌, ℕ, zero, suc, ◌+◌, ◌-◌, ◌*◌, ◌/◌, ◌%◌, ◌<◌, Bool, true, false, cond, not, List, [], ◌∷◌, Some, None, Option, ◌==◌, nat_lt}
+use Rattle.std.specs.Prelude.{◌≡◌, ℕ, zero, suc, ◌+◌, ◌-◌, ◌*◌, ◌/◌, ◌%◌, ◌<◌, Bool, false, cond, List, [], ◌∷◌, Some, Option, ◌==◌, nat_lt}
 use Rattle.std.specs.List.{slice_get}
 use Rattle.layout.specs.declared.numbers.Block.{Block}
 use Rattle.layout.specs.declared.numbers.Sector.{Sector}

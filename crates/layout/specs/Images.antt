@@ -1,5 +1,5 @@
 -- A card image: 4,096 bytes, 256 blocks of sixteen, block 0 first. Assumes nothing.
-use Rattle.std.specs.Prelude.{ℕ, cond, List, length, Ok, Err, Result, ◌==◌}
+use Rattle.std.specs.Prelude.{ℕ, cond, List, length, Ok, Result, ◌==◌}
 use Rattle.layout.specs.Refusals.{refuse}
 use Rattle.layout.specs.declared.refusals.Reason.TheVariants.{ImageSize}
 use Rattle.layout.specs.declared.refusals.Refusal.{Refusal}

@@ -2,7 +2,7 @@
 use Rattle.std.specs.Prelude.{◌≡◌, ℕ, zero, suc, ◌<◌, List, [], ◌∷◌, length, fold, ◌≢◌, slice_index}
 use Rattle.std.proofs.Common.{sym, ap, ◌∙◌, le_of_suc-le-suc, not-suc-le-zero, suc-ne-zero, ext_get_or}
 use Rattle.std.proofs.Math.Nat.{suc_inj}
-use Rattle.layout.specs.Differ.{Bytes, DifferInOne, OneByteShows}
+use Rattle.layout.specs.Differ.{Bytes, OneByteShows}
 
 module _ {S : Type 0} (fits : S → Type 0) (step : S → ℕ → S)
     (stays : (s : S) (b : ℕ) → fits s → b < 256 → fits (step s b))

@@ -1,5 +1,5 @@
 -- The five profiles: their letters, their sectors, their application directory. Assumes nothing.
-use Rattle.std.specs.Prelude.{ℕ, Bool, true, false, cond, ◌&&◌, ◌||◌, List, [], ◌∷◌, Some, None, codes, Option, ◌==◌, nat_le}
+use Rattle.std.specs.Prelude.{ℕ, Bool, false, cond, ◌&&◌, ◌||◌, List, [], ◌∷◌, Some, None, codes, Option, ◌==◌, nat_le}
 use Rattle.layout.specs.Blocks.{to_block, to_sector}
 use Rattle.layout.specs.declared.profiles.Mad.{Mad}
 use Rattle.layout.specs.declared.profiles.Profile.{Profile}

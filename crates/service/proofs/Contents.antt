@@ -1,12 +1,10 @@
 -- The objects of a content: by walking, and by the grammar. Assumes nothing.
-use Rattle.std.proofs.Common.{◌≡◌, ℕ, zero, suc, ◌+◌, ◌<◌, ◌≤◌, Bool, true, false, cond, eqb, List, [], ◌∷◌, ◌++◌, length, drop, Some, None, Ok, Err, Option, sym, refl, ap, ◌∙◌, subst, arith, length-append, length-drop}
-use Rattle.std.proofs.lemmas.List.{drop_all, nil_from_length}
+use Rattle.std.proofs.Common.{◌≡◌, ℕ, zero, suc, ◌+◌, ◌<◌, ◌≤◌, Bool, true, false, eqb, List, [], ◌∷◌, ◌++◌, length, drop, Some, None, Ok, Err, Option, sym, refl, ap, ◌∙◌, subst, arith, length-append, length-drop}
+use Rattle.std.proofs.lemmas.List.{drop_all}
 use Rattle.std.proofs.lemmas.Bool.{cond-true, cond-false, eqb-true, eqb-false, eq-eqb, ne_eqb}
-use Rattle.layout.specs.Refusals.{Answer, refuse}
-use Rattle.layout.specs.declared.refusals.Reason.TheVariants.{DataObject}
-use Rattle.service.specs.Grammar.{ObjectIs, Joined, ContentIs}
-use Rattle.service.specs.Laws.{Walk, WalkOver, Walked, ContentExact}
-use Rattle.service.specs.Objects.{Fields, Met, Objects, object_at, or_wrong, next_object, before, before_rest, objects_from, objects_of}
+use Rattle.service.specs.Grammar.{ObjectIs, ContentIs}
+use Rattle.service.specs.Laws.{WalkOver, Walked, ContentExact}
+use Rattle.service.specs.Objects.{Fields, Met, Objects, object_at, or_wrong, next_object, before, before_rest, objects_from}
 use Rattle.service.proofs.ObjectForms.{ObjectFound, object_complete, object_sound}
 use Rattle.service.proofs.Offsets.{after_front, front_inside}
 

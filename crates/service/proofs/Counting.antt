@@ -1,12 +1,12 @@
 -- Counting the objects of a content, one turn after another. Assumes nothing.
-use Rattle.std.proofs.Common.{◌≡◌, ℕ, zero, suc, ◌+◌, ◌<◌, ◌≤◌, Bool, true, false, cond, eqb, List, [], ◌∷◌, length, Some, None, Ok, Err, Option, sym, refl, ap, ◌∙◌, add-zero, zero-add, arith}
+use Rattle.std.proofs.Common.{◌≡◌, ℕ, zero, suc, ◌+◌, ◌<◌, ◌≤◌, Bool, true, false, cond, eqb, List, length, Some, None, Ok, Err, Option, sym, refl, ap, ◌∙◌, add-zero, zero-add, arith}
 use Rattle.std.proofs.lemmas.Bool.{eqb-true, eqb-false}
 use Rattle.layout.specs.Refusals.{Answer, refuse}
 use Rattle.layout.specs.declared.refusals.Reason.TheVariants.{DataObject}
 use Rattle.layout.specs.declared.refusals.Refusal.{Refusal}
 use Rattle.service.specs.Objects.{Fields, Met, Objects, object_at, or_wrong, next_object, before, before_rest, objects_from, objects_of, counted}
 use Rattle.service.proofs.Contents.{at_end, at_more}
-use Rattle.service.proofs.ObjectForms.{ObjectFound, object_sound}
+use Rattle.service.proofs.ObjectForms.{object_sound}
 
 -- so many and these
 abbrev counted_from : ℕ → Objects → Answer ℕ

@@ -1,5 +1,5 @@
 -- A run is read exactly if it holds service data. Assumes nothing.
-use Rattle.std.proofs.Common.{◌≡◌, ℕ, ◌+◌, ◌-◌, ◌*◌, ◌<◌, ◌≤◌, Bool, true, false, cond, ◌&&◌, ◌||◌, eqb, leb, ◌⊎◌, List, [], ◌∷◌, ◌++◌, length, get_or, take, drop, replicate, Some, None, Ok, Err, Option, sym, refl, ap, ◌∙◌, subst, inl, inr, ⊎_elim, append_assoc, add_assoc, arith, lit<, length-append, length-drop}
+use Rattle.std.proofs.Common.{◌≡◌, ℕ, ◌+◌, ◌*◌, ◌<◌, ◌≤◌, Bool, true, false, cond, ◌&&◌, eqb, leb, ◌⊎◌, List, [], ◌∷◌, ◌++◌, length, get_or, take, drop, replicate, Some, None, Ok, Err, Option, sym, refl, ap, ◌∙◌, subst, inl, inr, ⊎_elim, append_assoc, add_assoc, arith, lit<, length-append, length-drop}
 use Rattle.std.proofs.lemmas.List.{drop_more, take_at}
 use Rattle.std.proofs.lemmas.Bool.{cond-true, cond-false, lt-leb, le-leb, leb-true, leb-false, eqb-true, eq-eqb, and_from, and_parts, or_left, or_right, or_cases}
 use Rattle.std.specs.List.{between}
@@ -8,15 +8,15 @@ use Rattle.layout.specs.Refusals.{Answer, then, refuse}
 use Rattle.layout.specs.declared.refusals.Reason.TheVariants.{DataFrame, DataChecksum}
 use Rattle.layout.proofs.Answered.{then_ok}
 use Rattle.service.specs.Frames.{Held, outer, content_at, header_of, marked, sum_right, end_judged, used_from, padding_judged, frame_in, frame_of}
-use Rattle.service.specs.Grammar.{covered, RunHolds, ContentIs}
+use Rattle.service.specs.Grammar.{covered}
 use Rattle.service.specs.Laws.{Holds, FrameExact}
-use Rattle.service.specs.Lengths.{LengthIs, length_to, length_at}
+use Rattle.service.specs.Lengths.{LengthIs, length_at}
 use Rattle.service.specs.Objects.{Fields, Objects, objects_of, counted}
 use Rattle.service.specs.declared.frames.Header.{Header}
 use Rattle.service.specs.declared.lengths.Length.{Length}
 use Rattle.service.proofs.Contents.{content_exact}
-use Rattle.service.proofs.LengthForms.{LengthFound, length_complete, length_sound}
-use Rattle.service.proofs.Offsets.{Here, here, after_front, front_between, split_between}
+use Rattle.service.proofs.LengthForms.{length_complete, length_sound}
+use Rattle.service.proofs.Offsets.{here, after_front, front_between, split_between}
 use Rattle.service.proofs.Padding.{unused_complete, unused_sound}
 
 -- the offset where the content ends

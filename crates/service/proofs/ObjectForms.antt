@@ -1,14 +1,14 @@
 -- An object is read exactly if one stands there. Assumes nothing.
-use Rattle.std.proofs.Common.{◌≡◌, ℕ, ◌+◌, ◌-◌, ◌*◌, ◌<◌, ◌≤◌, Bool, true, false, cond, ◌||◌, eqb, ltb, leb, ◌⊎◌, List, [], ◌∷◌, ◌++◌, length, get_or, take, drop, Some, None, Option, sym, refl, ap, ◌∙◌, subst, inl, inr, ⊎_elim, append_assoc, add_assoc, arith, length-append, length-drop, length-take}
+use Rattle.std.proofs.Common.{◌≡◌, ℕ, ◌+◌, ◌-◌, ◌*◌, ◌<◌, ◌≤◌, Bool, true, false, cond, ◌||◌, eqb, ltb, leb, List, [], ◌∷◌, ◌++◌, length, get_or, drop, Some, None, Option, sym, refl, ap, ◌∙◌, subst, append_assoc, add_assoc, arith, length-append, length-drop}
 use Rattle.std.proofs.lemmas.List.{drop_more}
-use Rattle.std.proofs.lemmas.Bool.{cond-true, cond-false, lt-leb, le-leb, leb-true, leb-false, ltb-false, le-ltb, eqb-true, eqb-false, ne_eqb, or_from, or_parts, false≢true}
+use Rattle.std.proofs.lemmas.Bool.{cond-true, cond-false, lt-leb, leb-false, ltb-false, le-ltb, eqb-false, ne_eqb, or_from, or_parts, false≢true}
 use Rattle.std.specs.List.{between}
 use Rattle.service.specs.Grammar.{TagIs, OneByte, TwoBytes, ObjectIs}
-use Rattle.service.specs.Lengths.{LengthIs, length_to, length_at}
+use Rattle.service.specs.Lengths.{LengthIs, length_at}
 use Rattle.service.specs.Objects.{Tag, one, two, Fields, Met, Body, goes_on, value_of, value_at, tagged, object_at}
 use Rattle.service.specs.declared.lengths.Length.{Length}
-use Rattle.service.proofs.LengthForms.{LengthFound, length_complete, length_sound}
-use Rattle.service.proofs.Offsets.{Here, here, after_front, front_inside, front_between, split_between}
+use Rattle.service.proofs.LengthForms.{length_complete, length_sound}
+use Rattle.service.proofs.Offsets.{here, after_front, front_between, split_between}
 
 module _ (xs : List ℕ) where
   -- what a length counts, with the offset after it

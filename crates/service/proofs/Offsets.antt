@@ -1,5 +1,5 @@
 -- What stands at an offset of some bytes, and after it. Assumes nothing.
-use Rattle.std.proofs.Common.{◌≡◌, ℕ, ◌+◌, ◌-◌, ◌<◌, ◌≤◌, List, [], ◌∷◌, ◌++◌, length, get_or, take, drop, sym, refl, ap, ◌∙◌, add-zero, arith, length-append, length-drop}
+use Rattle.std.proofs.Common.{◌≡◌, ℕ, ◌+◌, ◌<◌, ◌≤◌, List, ◌∷◌, ◌++◌, length, get_or, take, drop, sym, refl, ap, ◌∙◌, add-zero, arith, length-append, length-drop}
 use Rattle.std.proofs.lemmas.List.{get_or-drop, drop-drop, drop_at, take_at, take-append-drop}
 use Rattle.std.specs.List.{between}
 

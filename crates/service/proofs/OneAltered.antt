@@ -1,18 +1,16 @@
 -- One altered byte of service data that does not move the frame is refused. Assumes nothing.
-use Rattle.std.proofs.Common.{◌≡◌, ℕ, ◌+◌, ◌*◌, ◌<◌, ◌≤◌, min, Bool, true, false, cond, ◌&&◌, eqb, leb, ◌⊎◌, List, [], ◌∷◌, ◌++◌, length, get_or, take, drop, Ok, Err, sym, refl, ap, ◌∙◌, subst, inl, inr, ⊎_elim, arith, length-append, length-drop, length-take, ext_get_or}
-use native.Mathlib.Nat.{min-eq_left}
+use Rattle.std.proofs.Common.{◌≡◌, ℕ, ◌+◌, ◌*◌, ◌<◌, ◌≤◌, true, false, cond, ◌&&◌, eqb, leb, ◌⊎◌, List, ◌++◌, length, get_or, take, drop, Ok, sym, refl, ap, ◌∙◌, subst, inl, inr, ⊎_elim, arith, ext_get_or}
 use Rattle.std.proofs.ByRecursion.{All-take}
 use Rattle.std.proofs.lemmas.List.Prefix.{at_from_reads, at_reads}
 use Rattle.std.proofs.lemmas.List.{get_or-take, get_or_past, length-take-le}
 use Rattle.std.proofs.lemmas.Bool.{cond-true, cond-false, le-leb, lt-leb, eq-eqb, ne_eqb, and_from, and_left, and_right, cases_lt, cases_Bool}
 use Rattle.layout.specs.Crc.{crc16}
 use Rattle.layout.specs.Differ.{Bytes, DifferInOne}
-use Rattle.layout.specs.Refusals.{Answer, then, refuse}
+use Rattle.layout.specs.Refusals.{then, refuse}
 use Rattle.layout.specs.declared.refusals.Reason.{Reason}
 use Rattle.layout.specs.declared.refusals.Reason.TheVariants.{DataFrame, DataChecksum}
 use Rattle.layout.specs.CrcShows.{crc16_shows}
 use Rattle.service.specs.Frames.{Held, outer, header_of, marked, sum_right, end_judged, content_in, frame_in, frame_of}
-use Rattle.service.specs.Grammar.{covered, RunHolds}
 use Rattle.service.specs.Laws.{Holds, Altered, OneAlteredByte}
 use Rattle.service.specs.declared.frames.Header.{Header}
 use Rattle.service.proofs.FrameForms.{end_of, Places, places, header_at, header_complete, outer_tag, frame_sound}

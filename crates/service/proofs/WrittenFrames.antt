@@ -1,20 +1,20 @@
 -- What is written is service data by the layout, and is read back. Assumes nothing.
-use Rattle.std.proofs.Common.{◌≡◌, ℕ, ◌+◌, ◌-◌, ◌*◌, ◌/◌, ◌%◌, ◌<◌, ◌≤◌, Bool, true, false, cond, eqb, leb, ◌⊎◌, List, [], ◌∷◌, ◌++◌, length, take, drop, replicate, Ok, Err, sym, refl, ap, ◌∙◌, subst, inl, inr, ⊎_elim, append_assoc, mul_comm, arith, length-append}
+use Rattle.std.proofs.Common.{◌≡◌, ℕ, ◌+◌, ◌-◌, ◌*◌, ◌/◌, ◌%◌, ◌<◌, ◌≤◌, Bool, true, false, cond, leb, List, [], ◌∷◌, ◌++◌, length, take, drop, replicate, Ok, Err, sym, refl, ap, ◌∙◌, inl, inr, ⊎_elim, append_assoc, mul_comm, arith, length-append}
 use native.Mathlib.Nat.{div-add-mod}
 use lib.ListN.{length-replicate}
 use borrow.Rule.Slice.PartMut.{put_mid}
 use Rattle.std.proofs.lemmas.List.{take_at}
-use Rattle.std.proofs.lemmas.Bool.{cond-true, cond-false, leb-true, leb-false, le-leb, lt-leb, eqb-true, or_cases, cases_Bool, cases_lt}
+use Rattle.std.proofs.lemmas.Bool.{cond-true, cond-false, leb-true, eqb-true, or_cases, cases_Bool}
 use Rattle.layout.specs.Buffers.{overlaid}
 use Rattle.layout.specs.Crc.{crc16}
 use Rattle.layout.specs.Refusals.{Answer, refuse}
 use Rattle.layout.specs.declared.refusals.Reason.TheVariants.{OuterTag, NewContent}
 use Rattle.layout.proofs.Overlaid.{put_behind}
-use Rattle.service.specs.Frames.{outer, header_size, blocks_for, summed, frame_bytes, objects_judged, write_judged, frame_of, Behind}
-use Rattle.service.specs.Grammar.{covered, RunHolds, ContentIs}
-use Rattle.service.specs.Laws.{Holds, Fewest, Written, WriteSound}
+use Rattle.service.specs.Frames.{outer, header_size, blocks_for, summed, frame_bytes, objects_judged, write_judged, Behind}
+use Rattle.service.specs.Grammar.{covered, RunHolds}
+use Rattle.service.specs.Laws.{Fewest, WriteSound}
 use Rattle.service.specs.Lengths.{LengthIs, short_length}
-use Rattle.service.specs.Objects.{Fields, objects_of, counted}
+use Rattle.service.specs.Objects.{objects_of, counted}
 use Rattle.service.proofs.Contents.{content_exact}
 use Rattle.service.proofs.FrameForms.{counted_ok, frame_complete}
 

@@ -4,10 +4,10 @@ use Rattle.std.specs.List.{between}
 use Rattle.layout.specs.Buffers.{overlaid}
 use Rattle.layout.specs.Crc.{crc16}
 use Rattle.layout.specs.Refusals.{Answer, then, refuse}
-use Rattle.layout.specs.declared.refusals.Reason.TheVariants.{DataFrame, DataChecksum, DataObject, DataPadding, OuterTag, NewContent}
+use Rattle.layout.specs.declared.refusals.Reason.TheVariants.{DataFrame, DataChecksum, DataPadding, OuterTag, NewContent}
 use Rattle.service.specs.Grammar.{covered}
 use Rattle.service.specs.Lengths.{short_length, length_at}
-use Rattle.service.specs.Objects.{Objects, objects_of, counted}
+use Rattle.service.specs.Objects.{objects_of, counted}
 use Rattle.service.specs.declared.frames.Frame.{Frame}
 use Rattle.service.specs.declared.frames.Header.{Header}
 use Rattle.service.specs.declared.lengths.Length.{Length}

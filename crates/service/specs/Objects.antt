@@ -3,7 +3,6 @@ use Rattle.std.specs.Prelude.{ℕ, zero, suc, ◌+◌, ◌-◌, ◌*◌, Bool, c
 use Rattle.std.specs.List.{between}
 use Rattle.layout.specs.Refusals.{Answer, refuse}
 use Rattle.layout.specs.declared.refusals.Reason.TheVariants.{DataObject}
-use Rattle.layout.specs.declared.refusals.Refusal.{Refusal}
 use Rattle.service.specs.Lengths.{length_at}
 use Rattle.service.specs.declared.lengths.Length.{Length}
 use Rattle.service.specs.declared.objects.Object.{Object}

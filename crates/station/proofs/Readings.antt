@@ -1,5 +1,5 @@
 -- Reading a service, step after step. Assumes nothing.
-use Rattle.std.proofs.Common.{◌≡◌, ℕ, ◌+◌, ◌*◌, ◌<◌, ◌≤◌, Bool, true, false, cond, leb, List, [], ◌∷◌, ◌++◌, length, take, drop, Some, None, Ok, Err, Option, sym, refl, ap, ◌∙◌, subst, ⊎_elim, append-nil, suc-add, zero-add, arith, length-append, length-take}
+use Rattle.std.proofs.Common.{◌≡◌, ℕ, ◌+◌, ◌*◌, ◌<◌, ◌≤◌, Bool, true, false, cond, leb, List, [], ◌∷◌, ◌++◌, length, take, drop, Some, None, Ok, Err, Option, sym, refl, ap, ◌∙◌, ⊎_elim, append-nil, suc-add, zero-add, arith, length-take}
 use Rattle.std.proofs.lemmas.List.{drop_all, drop_at, take_at, take_all}
 use Rattle.std.proofs.lemmas.Option.{slice_get_past as nth_past}
 use Rattle.std.proofs.lemmas.Bool.{cases_lt, leb-true}
@@ -12,7 +12,7 @@ use Rattle.layout.specs.declared.refusals.Refusal.{Refusal}
 use Rattle.card.specs.Blocks.{Blocks}
 use Rattle.directory.specs.Checks.{check_look, reads, verdict}
 use Rattle.directory.specs.Looks.{Look, judged, then_look, touches_after, lost_at, unless_lost, Taken}
-use Rattle.directory.specs.Reads.{run_touches, touch_look, joined, Filled}
+use Rattle.directory.specs.Reads.{touch_look, joined, Filled}
 use Rattle.directory.specs.declared.accepted.Directory.{Directory}
 use Rattle.directory.proofs.Filling.{length_joined, filled_whole}
 use Rattle.directory.proofs.Looking.{taken_none, taken_judge, taken_stop, taken_then, stay_judge, stay_stop, stay_then}

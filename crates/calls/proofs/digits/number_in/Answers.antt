@@ -1,6 +1,6 @@
-use Rattle.std.proofs.Common.{◌≡◌, ◌+◌, get_or, drop, sym, ap, ◌∙◌}
+use Rattle.std.proofs.Common.{◌+◌, drop, sym, ap, ◌∙◌}
 use Rattle.std.proofs.lemmas.List.{drop_more, drop_all}
-use Rattle.calls.specs.Digits.{and_then, one_more, number_from}
+use Rattle.calls.specs.Digits.{and_then, number_from}
 use Rattle.calls.proofs.digits.number_in.Goals as goal
 
 pub returns-in_err-value : goal.returns-in_err-value

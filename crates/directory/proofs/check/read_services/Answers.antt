@@ -1,4 +1,4 @@
-use Rattle.std.proofs.Common.{◌≡◌, Ok, sym, refl, ap, ◌∙◌, lit≤}
+use Rattle.std.proofs.Common.{Ok, sym, refl, ap, lit≤}
 use Rattle.std.proofs.lemmas.Result.{err_from_is_err_and}
 use Rattle.layout.specs.Refusals.{then}
 use Rattle.layout.specs.declared.refusals.Reason.TheVariants.{ServicesChecksum}

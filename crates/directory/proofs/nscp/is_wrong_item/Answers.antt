@@ -1,4 +1,4 @@
-use Rattle.std.proofs.Common.{◌≡◌, ◌||◌, sym, ap, ◌∙◌}
+use Rattle.std.proofs.Common.{◌||◌, sym, ap, ◌∙◌}
 use Rattle.std.proofs.lemmas.Bool.{or_left}
 use Rattle.directory.specs.Entries.{item_at}
 use Rattle.directory.specs.Nscp.{item_wrong, tag_is, wrong_as, wrong_item}

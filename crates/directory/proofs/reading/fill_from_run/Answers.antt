@@ -1,8 +1,7 @@
-use Rattle.std.proofs.Common.{◌≡◌, ◌+◌, ◌-◌, ◌*◌, Some, sym, ap, ◌∙◌, subst, arith}
+use Rattle.std.proofs.Common.{◌+◌, ◌-◌, ◌*◌, sym, ◌∙◌, subst, arith}
 use borrow.Rule.Slice.PartMut.{put_mid}
 use Rattle.std.proofs.lemmas.Result.{err_from_is_err_and}
-use Rattle.layout.specs.Runs.{run_block}
-use Rattle.directory.specs.Reads.{run_touches, Filled}
+use Rattle.directory.specs.Reads.{run_touches}
 use Rattle.directory.proofs.Filling.{Progress, progress_gone, progress_more, progress_done}
 use Rattle.directory.proofs.RunTouches.{length_touches, nth_touches, mapped_some}
 use Rattle.directory.proofs.reading.fill_from_run.Goals as goal

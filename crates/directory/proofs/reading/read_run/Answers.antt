@@ -1,4 +1,4 @@
-use Rattle.std.proofs.Common.{◌≡◌, ◌*◌, false, cond, ◌&&◌, leb, [], length, sym, ap, ◌∙◌}
+use Rattle.std.proofs.Common.{◌≡◌, ◌*◌, false, ◌&&◌, leb, length, sym, ◌∙◌}
 use Rattle.std.proofs.lemmas.Bool.{and_left, and_right, cond-false, lt-leb}
 use Rattle.layout.specs.Runs.{on_card}
 use Rattle.directory.specs.Reads.{run_reads}

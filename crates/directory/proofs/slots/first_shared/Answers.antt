@@ -1,4 +1,4 @@
-use Rattle.std.proofs.Common.{◌≡◌, ℕ, true, false, sym, ap, ◌∙◌, arith}
+use Rattle.std.proofs.Common.{◌≡◌, ℕ, sym, ap, ◌∙◌, arith}
 use Rattle.directory.specs.Entries.{slot_at}
 use Rattle.directory.specs.Searches.{any_of}
 use Rattle.directory.specs.Slots.{share, shares_earlier}

@@ -1,6 +1,5 @@
-use Rattle.std.proofs.Common.{◌≡◌, ◌++◌, string_bytes, sym, ap, ◌∙◌, arith}
+use Rattle.std.proofs.Common.{◌≡◌, ◌++◌, sym, ap, ◌∙◌, arith}
 use Rattle.std.proofs.lemmas.Result.{IfOk-from_err}
-use Rattle.directory.specs.Entries.{slot_at}
 use Rattle.full_listing.specs.Records.{slot_line, lines_of}
 use Rattle.full_listing.proofs.Stills.{still_none, still_then, same_text, lines_none, lines_more}
 use Rattle.full_listing.proofs.services.slot_lines.Goals as goal

@@ -1,4 +1,4 @@
-use Rattle.std.proofs.Common.{◌≡◌, ◌-◌, length}
+use Rattle.std.proofs.Common.{◌-◌, length}
 use Rattle.service.proofs.Counting.{Progress}
 use Rattle.service.proofs.objects.count_objects.Given as goal
 

@@ -1,4 +1,4 @@
-use Rattle.std.proofs.Common.{◌≡◌, ℕ, ◌+◌, ◌-◌, ◌*◌, ◌<◌, ◌≤◌, [], ◌∷◌, length, take, Ok, sym, refl, ap, ◌∙◌, subst, arith, rules}
+use Rattle.std.proofs.Common.{◌≡◌, ◌+◌, ◌*◌, length, take, Ok, sym, ap, ◌∙◌, subst, arith, rules}
 use Rattle.layout.specs.Crc.{crc16}
 use Rattle.layout.specs.Refusals.{then}
 use Rattle.service.specs.Frames.{blocks_for, Behind}

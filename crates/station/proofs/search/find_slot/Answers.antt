@@ -1,4 +1,4 @@
-use Rattle.std.proofs.Common.{◌≡◌, ℕ, true, false, Err, sym, ap, ◌∙◌, arith}
+use Rattle.std.proofs.Common.{◌≡◌, ℕ, true, Err, sym, ap, ◌∙◌, arith}
 use Rattle.directory.specs.Entries.{slot_at}
 use Rattle.directory.specs.Searches.{lowest_of}
 use Rattle.directory.specs.Slots.{number_is}

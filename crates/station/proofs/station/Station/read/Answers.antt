@@ -1,10 +1,9 @@
-use Rattle.std.proofs.Common.{◌≡◌, ◌*◌, ◌≤◌, length, Ok, Err, sym, refl, ap, ◌∙◌, subst, arith}
+use Rattle.std.proofs.Common.{length, Ok, Err, sym, refl, ap, ◌∙◌, subst}
 use Rattle.std.proofs.lemmas.Result.{err_from_is_err_and}
 use Rattle.layout.specs.Refusals.{then}
-use Rattle.directory.specs.Reads.{run_touches, Filled}
+use Rattle.directory.specs.Reads.{Filled}
 use Rattle.directory.proofs.SealedReads.{whole_run}
-use Rattle.station.specs.Finds.{found_in}
-use Rattle.station.specs.Reads.{room_judged, room_for}
+use Rattle.station.specs.Reads.{room_judged}
 use Rattle.station.proofs.AcceptedSlots.{found_on_card}
 use Rattle.station.proofs.Readings.{number_refused, check_refused, kept, found_refused, room_ok, run_gone, run_done}
 use Rattle.station.proofs.station.Station.read.Goals as goal
