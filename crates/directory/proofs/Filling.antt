@@ -3,7 +3,7 @@ use Rattle.std.proofs.Common.{◌≡◌, ℕ, zero, suc, ◌+◌, ◌-◌, ◌*�
 use native.Mathlib.Nat.{min-eq_left}
 use borrow.Rule.Slice.PartMut.{put_mid}
 use Rattle.std.proofs.lemmas.List.{take_all, take_more}
-use Rattle.std.proofs.lemmas.Option.{slice_get-get_or as nth-getD, slice_get_past}
+use Rattle.std.proofs.lemmas.Option.{slice_get-get_or, slice_get_past}
 use Rattle.std.proofs.lemmas.Bool.{cases_Bool, cases_lt, both_ways}
 use Rattle.std.specs.List.{slice_get}
 use Rattle.layout.specs.Buffers.{overlaid}
@@ -101,7 +101,7 @@ module _ {C : Type 0} (blocks : C → Blocks) (present : C → Bool) (steady : C
         let value : bytes ≡ blocks card t = q.value ∙ ap (λ b. b t) p.same in
         let long : length bytes ≡ 16 = ap length value ∙ full card t in
         let wide : length front ≡ 16 * i = length_joined card (take i touches) ∙ ap (λ n. 16 * n) (length-take i touches ∙ min-eq_left (omega arith)) in
-        let at_i : get_or touches i 0 ≡ t = let found = nth-getD touches i 0 within in cc in
+        let at_i : get_or touches i 0 ≡ t = let found = slice_get-get_or touches i 0 within in cc in
         let read : joined (blocks card) (take (i + 1) touches) ≡ front ++ bytes =
         ap (joined (blocks card)) (take_more touches i 0 within ∙ ap (λ x. take i touches ++ x ∷ []) at_i)
         ∙ joined_append (blocks card) (take i touches) (t ∷ [])
@@ -143,7 +143,7 @@ module _ {C : Type 0} (blocks : C → Blocks) (present : C → Bool) (steady : C
   stayed : (touches : List ℕ) (stay : ℕ) → ◌≡◌ {A = Answer (Unit {0})} (Ok tt) (unless_lost (slice_get touches stay) (Ok tt)) → length touches ≤ stay
   stayed touches stay e =
       ⊎_elim
-      (λ less. let found = nth-getD touches stay 0 less in let z : ◌≡◌ {A = ℕ} 0 1 = cc in absurd (omega arith))
+      (λ less. let found = slice_get-get_or touches stay 0 less in let z : ◌≡◌ {A = ℕ} 0 1 = cc in absurd (omega arith))
       (λ past. past)
       (cases_lt stay (length touches))
 

@@ -225,21 +225,21 @@ module _ (p : Profile) (blocks : Blocks) (d : Directory) (at : ℕ) (new : List 
       let s = k.sector.0 in
       let place = services_place p k.mad k.nscp.sector.0 k.nscp.bytes k.place k.nscp_right k.place_ok in
       let nscp_ok = nscp_allowed p k.mad k.sector k.sector_ok in
-      let nscp-low = nscp_small p s nscp_ok in
+      let nscp_low = nscp_small p s nscp_ok in
       let low = services_small p (sector_of c) place.allowed in
       let is : run_touches c 3 ≡ range_with_len c 3 = subst (λ n. run_touches n 3 ≡ range_with_len n 3) place.first (sector_touches (sector_of c) low) in
       let in-run = inside c 3 is b in
-      let c-is : c ≡ 4 * sector_of c = sym place.first ∙ first_is (sector_of c) low in
-      let s-is = first_is s nscp-low in
+      let c_is : c ≡ 4 * sector_of c = sym place.first ∙ first_is (sector_of c) low in
+      let s_is = first_is s nscp_low in
       let other : sector_of c ≡ s → ⊥ = λ e. place.apart (e ∙ sym (ap (λ t. t.0) k.nscp_sector_lem)) in
-      let above : (mad_of p).trailer.0 < at = omega (arith, services_above p (sector_of c) place.allowed, c-is, in-run.0) in
+      let above : (mad_of p).trailer.0 < at = omega (arith, services_above p (sector_of c) place.allowed, c_is, in-run.0) in
       let apart : (at < first_of s) ⊎ (first_of s + 3 ≤ at) =
-      ⊎_elim (λ (less : sector_of c < s). inl (omega (arith, c-is, s-is, in-run.1))) (λ (more : s ≤ sector_of c). inr (omega (arith, c-is, s-is, in-run.0, other))) (cases_lt (sector_of c) s) in
-      let nscp-same : nscp_look p k.mad after ≡ nscp_look p k.mad blocks = local_nscp p k.mad blocks after (agree_nscp p k.mad k.sector blocks after k.sector_ok (agree_apart (first_of s) 3 (sector_touches s nscp-low) apart)) in
+      ⊎_elim (λ (less : sector_of c < s). inl (omega (arith, c_is, s_is, in-run.1))) (λ (more : s ≤ sector_of c). inr (omega (arith, c_is, s_is, in-run.0, other))) (cases_lt (sector_of c) s) in
+      let nscp_same : nscp_look p k.mad after ≡ nscp_look p k.mad blocks = local_nscp p k.mad blocks after (agree_nscp p k.mad k.sector blocks after k.sector_ok (agree_apart (first_of s) 3 (sector_touches s nscp_low) apart)) in
       let broken = unsealed c 3 is b k.services_shut in
       ap (λ l. then l.answer (λ mad. (rest_look p mad after).answer)) (same_mad above)
       ∙ ap (λ a. then a (λ mad. (rest_look p mad after).answer)) k.mad_ok
-      ∙ ap (λ l. then l.answer (λ nscp. (services_look p k.mad nscp after).answer)) nscp-same
+      ∙ ap (λ l. then l.answer (λ nscp. (services_look p k.mad nscp after).answer)) nscp_same
       ∙ ap (λ a. then a (λ nscp. (services_look p k.mad nscp after).answer)) k.nscp_ok
       ∙ ap (λ a. then a (λ e. then (seal_judged ServicesChecksum e.0 (joined after (run_touches e.0 3))) (λ services. accepted (together p k.mad k.nscp e services)))) k.place_ok
       ∙ ap (λ a. then a (λ services. accepted (together p k.mad k.nscp k.place services))) (cond-false _ _ _ broken)

@@ -19,7 +19,7 @@ module _ (f : ℕ → Bool) where
 
   -- no more after a place that does not pass
   pub any_past : (n : ℕ) → any_of f n ≡ false → f n ≡ false → any_of f (n + 1) ≡ false
-  any_past n none no-here = any_more n ∙ ap (λ b. b || f n) none ∙ no-here
+  any_past n none no_here = any_more n ∙ ap (λ b. b || f n) none ∙ no_here
 
   -- a place that passes
   pub any_here : (n i : ℕ) → i < n → f i ≡ true → any_of f n ≡ true
@@ -53,7 +53,7 @@ module _ (f : ℕ → Bool) where
 
   pub lowest_past : (n : ℕ) → lowest_of f n ≡ None → f n ≡ false → lowest_of f (n + 1) ≡ None
   unfolding lowest_of
-  lowest_past n none no-here = rw add-one (simp (none, no-here) refl)
+  lowest_past n none no_here = rw add-one (simp (none, no_here) refl)
 
   -- the first that passes is found, however far the search goes on
   pub lowest_here : (n i : ℕ) → i < n → lowest_of f i ≡ None → f i ≡ true → lowest_of f n ≡ Some i

@@ -1,10 +1,10 @@
 -- What a checksum is for. Assumes nothing.
 use Rattle.std.specs.Prelude.{◌≡◌, ℕ, ◌<◌, List, length, fold, ◌≢◌, slice_index, slice_index_or}
-use Rattle.std.specs.List.{AllByRecursion as All}
+use Rattle.std.specs.List.{AllByRecursion}
 
 -- a string of bytes
 abbrev pub Bytes : List ℕ → Type 0
-Bytes = All (λ x. x < 256)
+Bytes = AllByRecursion (λ x. x < 256)
 
 -- two strings of one length that differ in exactly one place
 pub record DifferInOne (xs ys : List ℕ) : Type 0 where

@@ -44,11 +44,11 @@ places run f h =
     let content = f.content in
     let end = end_of f in
     let tail = w.high ∷ w.low ∷ replicate w.padding 0 in
-    let zero-at = here run 0 f.tag _ w.all in
+    let zero_at = here run 0 f.tag _ w.all in
     let behind : drop 1 run ≡ size ++ (content ++ (0xC0 ∷ 0x02 ∷ tail)) =
-    zero-at.more ∙ append_assoc size (content ++ (0xC0 ∷ 0x02 ∷ [])) tail ∙ ap (λ r. size ++ r) (append_assoc content (0xC0 ∷ 0x02 ∷ []) tail) in
-    let at-start : drop f.start run ≡ content ++ (0xC0 ∷ 0x02 ∷ tail) = ap (λ n. drop n run) h.start ∙ after_front run 1 size _ behind in
-    let at_end : drop end run ≡ 0xC0 ∷ 0x02 ∷ tail = after_front run f.start content _ at-start in
+    zero_at.more ∙ append_assoc size (content ++ (0xC0 ∷ 0x02 ∷ [])) tail ∙ ap (λ r. size ++ r) (append_assoc content (0xC0 ∷ 0x02 ∷ []) tail) in
+    let at_start : drop f.start run ≡ content ++ (0xC0 ∷ 0x02 ∷ tail) = ap (λ n. drop n run) h.start ∙ after_front run 1 size _ behind in
+    let at_end : drop end run ≡ 0xC0 ∷ 0x02 ∷ tail = after_front run f.start content _ at_start in
     let e0 = here run end 0xC0 (0x02 ∷ tail) at_end in
     let e1 = here run (end + 1) 0x02 tail e0.more in
     let e2 = here run (end + 2) w.high (w.low ∷ replicate w.padding 0) (ap (λ n. drop n run) (sym (add_assoc end 1 1)) ∙ e1.more) in
@@ -56,10 +56,10 @@ places run f h =
     let long : length (covered f.tag size content) ≡ end + 2 =
     omega (arith, h.start, length-append size (content ++ (0xC0 ∷ 0x02 ∷ [])), length-append content (0xC0 ∷ 0x02 ∷ [])) in
     record {
-      some = zero-at.inside;
-      tag = zero-at.byte;
+      some = zero_at.inside;
+      tag = zero_at.byte;
       header = behind ∙ ap (λ r. size ++ (content ++ r)) (sym at_end);
-      content = front_between run f.start (length content) content (0xC0 ∷ 0x02 ∷ tail) refl at-start;
+      content = front_between run f.start (length content) content (0xC0 ∷ 0x02 ∷ tail) refl at_start;
       room = omega (arith, e3.inside);
       first = e0.byte;
       second = e1.byte;
@@ -79,10 +79,10 @@ header_at tag start end = record { tag = tag; start = start; end = end }
 -- an outer tag, and a length behind it
 pub header_complete : (run : List ℕ) (tag n : ℕ) (size rest : List ℕ) → 0 < length run → get_or run 0 0 ≡ tag → outer tag ≡ true → LengthIs n size → drop 1 run ≡ size ++ rest
     → header_of run ≡ Ok (header_at tag (1 + length size) (1 + length size + n))
-header_complete run tag n size rest some is-tag is-outer sized e =
+header_complete run tag n size rest some is_tag is_outer sized e =
     cond-false _ _ _ (lt-leb _ 0 some)
-    ∙ cond-true _ _ _ (ap outer is-tag ∙ is-outer)
-    ∙ (λ i. content_at (is-tag i) (length_complete run 1 n size rest sized e i))
+    ∙ cond-true _ _ _ (ap outer is_tag ∙ is_outer)
+    ∙ (λ i. content_at (is_tag i) (length_complete run 1 n size rest sized e i))
 
 pub frame_complete : (run : List ℕ) (f : Held) → Holds run f → frame_of run ≡ Ok f
 unfolding frame_in

@@ -60,8 +60,8 @@ module _ (xs : List ℕ) where
               let behind : drop (after + 1) xs ≡ part ++ drop (after + l.count) xs =
               split_between xs (after + 1) n ∙ (λ i. between (after + 1) (last i) xs ++ drop (last i) xs) in
               let long : length part + 1 ≡ l.count = omega (arith, length-append part (drop (after + l.count) xs), ap length behind, length-drop (after + 1) xs, length-drop (after + l.count) xs) in
-              let is-v : record { format = get_or xs after 0; bytes = part; next = after + l.count } ≡ v = cc in
-              subst (ValueFound at) is-v (record {
+              let is_v : record { format = get_or xs after 0; bytes = part; next = after + l.count } ≡ v = cc in
+              subst (ValueFound at) is_v (record {
                 size = f.bytes;
                 sized = subst (λ k. LengthIs k f.bytes) (sym long) f.is;
                 there = f.there ∙ ap (λ r. f.bytes ++ r) (drop_more xs after 0 first ∙ ap (λ r. get_or xs after 0 ∷ r) behind);
@@ -83,17 +83,17 @@ module _ (xs : List ℕ) where
           ∙ ap (λ r. is.tag ++ r) (append_assoc is.size (o.format ∷ o.bytes) rest)
 
       by_tag : (t : Tag) → t ≡ o.tag → TagIs o.tag is.tag → object_at xs at ≡ Some (record { object = o; next = at + length front })
-      by_tag (one t) is-tag which =
-          let w : OneByte t is.tag = subst (λ k. TagIs k is.tag) (sym is-tag) which in
+      by_tag (one t) is_tag which =
+          let w : OneByte t is.tag = subst (λ k. TagIs k is.tag) (sym is_tag) which in
           let h = here xs at t _ (there ∙ ap (λ b. b ++ (is.size ++ (o.format ∷ (o.bytes ++ rest)))) w.all) in
           let v = value_complete (at + 1) o.format is.size o.bytes rest (omega (arith, h.inside)) is.sized h.more in
           let next : at + 1 + length is.size + (length o.bytes + 1) ≡ at + length front = omega (arith, long, ap length w.all) in
           cond-false _ _ _ (or_from _ _ (lt-leb _ _ h.inside) (ne_eqb _ 0 (λ z. w.used (sym h.byte ∙ z))))
           ∙ cond-false _ _ _ (ap goes_on h.byte ∙ w.alone)
           ∙ (λ i. tagged (one (h.byte i)) (v i))
-          ∙ (λ i. Some (record { object = record { tag = is-tag i; format = o.format; bytes = o.bytes }; next = next i }))
-      by_tag (two t) is-tag which =
-          let w : TwoBytes t is.tag = subst (λ k. TagIs k is.tag) (sym is-tag) which in
+          ∙ (λ i. Some (record { object = record { tag = is_tag i; format = o.format; bytes = o.bytes }; next = next i }))
+      by_tag (two t) is_tag which =
+          let w : TwoBytes t is.tag = subst (λ k. TagIs k is.tag) (sym is_tag) which in
           let h = here xs at w.first _ (there ∙ ap (λ b. b ++ (is.size ++ (o.format ∷ (o.bytes ++ rest)))) w.all) in
           let k = here xs (at + 1) w.second _ h.more in
           let v = value_complete (at + 2) o.format is.size o.bytes rest (omega (arith, k.inside)) is.sized (ap (λ n. drop n xs) (sym (add_assoc at 1 1)) ∙ k.more) in
@@ -102,7 +102,7 @@ module _ (xs : List ℕ) where
           ∙ cond-true _ _ _ (ap goes_on h.byte ∙ w.follows)
           ∙ cond-false _ _ _ (or_from _ _ (lt-leb _ _ k.inside) (ap (leb 0x80) k.byte ∙ lt-leb 0x80 _ w.low))
           ∙ (λ i. tagged (two (h.byte i * 256 + k.byte i)) (v i))
-          ∙ (λ i. Some (record { object = record { tag = (ap two (sym w.value) ∙ is-tag) i; format = o.format; bytes = o.bytes }; next = next i }))
+          ∙ (λ i. Some (record { object = record { tag = (ap two (sym w.value) ∙ is_tag) i; format = o.format; bytes = o.bytes }; next = next i }))
         where
           first_used : (b : ℕ) → goes_on b ≡ true → b ≡ 0 → ⊥
           first_used b f z = false≢true (ap goes_on (sym z) ∙ f)

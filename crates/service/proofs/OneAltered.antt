@@ -55,14 +55,14 @@ module _ (run after : List ℕ) (f : Held) (h : Holds run f) (d : DifferInOne ru
 
     -- the header, where its length is not altered
     header : (tag : ℕ) → get_or after 0 0 ≡ tag → outer tag ≡ true → ((k : ℕ) → 0 < k → k < f.start → k ≡ d.place → ⊥) → header_of after ≡ Ok (header_at tag f.start (end_of f))
-    header tag is-tag is-outer away =
+    header tag is_tag is_outer away =
         let size = h.size in
         let some : 0 < length after = omega (arith, p.some, d.long) in
         let starts = h.start in
         let fits : 1 + length size ≤ length after = omega (arith, d.long, p.room, starts) in
         let there : drop 1 after ≡ size ++ drop (1 + length size) after =
         at_from_reads 0 after size 1 fits (λ i low. same (1 + i) (away (1 + i) (omega arith) (omega arith)) ∙ at_reads 0 run size 1 _ p.header i low) in
-        header_complete after tag (length f.content) size _ some is-tag is-outer h.layout.sized there
+        header_complete after tag (length f.content) size _ some is_tag is_outer h.layout.sized there
         ∙ ap (λ s. Ok (header_at tag s (s + length f.content))) (sym starts)
 
     -- the mark, where it is not altered

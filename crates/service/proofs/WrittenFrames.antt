@@ -66,10 +66,10 @@ judged_ok tag content e = by_tests (outer tag) (leb (length content) 255) (count
 module _ (tag : ℕ) (content : List ℕ) where
   written_holds : outer tag ≡ true → RunHolds tag (short_length (length content)) content (frame_bytes tag content)
   unfolding frame_bytes
-  written_holds is-outer =
+  written_holds is_outer =
       let sum = crc16 (covered tag (short_length (length content)) content) in
       record {
-        outer = ⊎_elim (λ k. inl (eqb-true _ _ k)) (λ k. inr (eqb-true _ _ k)) (or_cases _ _ is-outer);
+        outer = ⊎_elim (λ k. inl (eqb-true _ _ k)) (λ k. inr (eqb-true _ _ k)) (or_cases _ _ is_outer);
         sized = short_is (length content);
         high = sum / 256;
         low = sum % 256;
@@ -108,8 +108,8 @@ module _ (tag : ℕ) (content : List ℕ) where
   -- the five parts of a frame, put one behind another
   module _ (run b1 b2 b3 b4 b5 : List ℕ) (start end marked last to sum : ℕ)
       (wide : length run ≡ 272) (short : length content ≤ 255)
-      (is-start : start ≡ header_size (length content)) (is-end : end ≡ start + length content) (is-marked : marked ≡ end + 2) (is_last : last ≡ marked + 2)
-      (is-to : to ≡ 16 * blocks_for (length content))
+      (is_start : start ≡ header_size (length content)) (is_end : end ≡ start + length content) (is_marked : marked ≡ end + 2) (is_last : last ≡ marked + 2)
+      (is_to : to ≡ 16 * blocks_for (length content))
       (header : Behind run 0 (tag ∷ short_length (length content)) b1) (body : Behind b1 start content b2) (mark : Behind b2 end (0xC0 ∷ 0x02 ∷ []) b3)
       (is_sum : sum ≡ crc16 (take marked b3)) (fits : sum < 65536)
       (seal : Behind b3 marked (sum / 256 % 256 ∷ sum % 256 ∷ []) b4) (fill : Behind b4 last (replicate (to - last) 0) b5) where
@@ -118,10 +118,10 @@ module _ (tag : ℕ) (content : List ℕ) where
     frame_put =
         let c = length content in
         let size = short_length c in
-        let mark-is : List ℕ = 0xC0 ∷ 0x02 ∷ [] in
+        let mark_is : List ℕ = 0xC0 ∷ 0x02 ∷ [] in
         let all = covered tag size content in
-        let wide-1 = length_short c in
-        let wide-2 = length-append (tag ∷ size) content in
+        let wide_1 = length_short c in
+        let wide_2 = length-append (tag ∷ size) content in
         let long = length_covered tag content in
         let small = header_small c in
         let enough = (blocks_fewest c).enough in
@@ -129,12 +129,12 @@ module _ (tag : ℕ) (content : List ℕ) where
         let most : blocks_for c < 18 = omega arith in
         let f1 = header [] run refl refl (omega arith) in
         let f2 = body (tag ∷ size) run f1 (omega arith) (omega arith) in
-        let f3 : b3 ≡ overlaid all run = mark ((tag ∷ size) ++ content) run f2 (omega arith) (omega arith) ∙ ap (λ x. overlaid x run) (ap (λ r. tag ∷ r) (append_assoc size content mark-is)) in
+        let f3 : b3 ≡ overlaid all run = mark ((tag ∷ size) ++ content) run f2 (omega arith) (omega arith) ∙ ap (λ x. overlaid x run) (ap (λ r. tag ∷ r) (append_assoc size content mark_is)) in
         let sum_is : sum ≡ crc16 all = is_sum ∙ ap crc16 (ap (take marked) f3 ∙ take_at all (drop (length all) run) marked (omega arith)) in
         let high : sum / 256 % 256 ≡ crc16 all / 256 = (omega arith) ∙ ap (λ s. s / 256) sum_is in
         let bytes : sum / 256 % 256 ∷ sum % 256 ∷ [] ≡ crc16 all / 256 ∷ crc16 all % 256 ∷ [] = λ i. high i ∷ sum_is i % 256 ∷ [] in
         let f4 : b4 ≡ overlaid (summed all) run = seal all run f3 (omega arith) (omega arith) ∙ ap (λ x. overlaid (all ++ x) run) bytes in
-        let wide-3 = length-append all (crc16 all / 256 ∷ crc16 all % 256 ∷ []) in
+        let wide_3 = length-append all (crc16 all / 256 ∷ crc16 all % 256 ∷ []) in
         let left : to - last ≡ 16 * blocks_for c - (header_size c + c + 4) = omega arith in
         let zeros = length-replicate {A = ℕ} (to - last) 0 in
         fill (summed all) run f4 (omega arith) (omega arith) ∙ ap (λ k. overlaid (summed all ++ replicate k 0) run) left

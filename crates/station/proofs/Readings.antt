@@ -1,7 +1,7 @@
 -- Reading a service, step after step. Assumes nothing.
 use Rattle.std.proofs.Common.{◌≡◌, ℕ, ◌+◌, ◌*◌, ◌<◌, ◌≤◌, Bool, true, false, cond, leb, List, [], ◌∷◌, ◌++◌, length, take, drop, Some, None, Ok, Err, Option, sym, refl, ap, ◌∙◌, ⊎_elim, append-nil, suc-add, zero-add, arith, length-take}
 use Rattle.std.proofs.lemmas.List.{drop_all, drop_at, take_at, take_all}
-use Rattle.std.proofs.lemmas.Option.{slice_get_past as nth_past}
+use Rattle.std.proofs.lemmas.Option.{slice_get_past}
 use Rattle.std.proofs.lemmas.Bool.{cases_lt, leb-true}
 use Rattle.std.specs.List.{slice_get}
 use Rattle.layout.specs.Buffers.{overlaid}
@@ -33,7 +33,7 @@ room_ok d number room f found enough =
 
 -- a place that holds something lies inside
 nth_inside : (xs : List ℕ) (i b : ℕ) → slice_get xs i ≡ Some b → i < length xs
-nth_inside xs i b e = ⊎_elim (λ low. low) (λ past. let none = nth_past xs i past in let z : ◌≡◌ {A = ℕ} 0 1 = cc in absurd (omega arith)) (cases_lt i (length xs))
+nth_inside xs i b e = ⊎_elim (λ low. low) (λ past. let none = slice_get_past xs i past in let z : ◌≡◌ {A = ℕ} 0 1 = cc in absurd (omega arith)) (cases_lt i (length xs))
 
 module _ {C : Type 0} (blocks : C → Blocks) (present : C → Bool) (steady : C → Type 0) (full : (card : C) (b : ℕ) → length (blocks card b) ≡ 16)
     (p : Profile) (number : ℕ) (card : C) (before : List ℕ) where

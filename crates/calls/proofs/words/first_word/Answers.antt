@@ -9,8 +9,8 @@ returns c =
     let end = c.count_front-end.result in
     let after = take (length xs - end) (drop end xs) in
     let whole : end - 0 ≡ word_length xs = omega (arith, c.count_front-end.ensures.value) in
-    let is-after : after ≡ drop (word_length xs) xs = take_rest xs end ∙ ap (λ n. drop n xs) c.count_front-end.ensures.value in
+    let is_after : after ≡ drop (word_length xs) xs = take_rest xs end ∙ ap (λ n. drop n xs) c.count_front-end.ensures.value in
     record {
       word = ap (λ n. take n xs) whole;
-      rest = take_rest after c.count_front-start.result ∙ ap (λ n. drop n after) c.count_front-start.ensures.value ∙ ap (trimmed_front false) is-after;
+      rest = take_rest after c.count_front-start.result ∙ ap (λ n. drop n after) c.count_front-start.ensures.value ∙ ap (trimmed_front false) is_after;
     }

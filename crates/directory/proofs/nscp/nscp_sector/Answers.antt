@@ -14,16 +14,16 @@ loop-i-preserved c =
     let i = c.loop-i.i in
     elim c.if-has_aid.branch [
       | then-has_aid w ↦
-          let yes-here : f i ≡ true = sym c.has_aid.ensures ∙ w.if-has_aid.true in (
-            w.count-is ∙ ap (λ n. n + 1) c.loop-i.invariant.0 ∙ ap (λ b. count_of f i + cond b 1 0) (sym yes-here) ∙ sym (count_more f i),
-            w.last-is ∙ ap (λ b. cond b i (last_of f i)) (sym yes-here) ∙ sym (last_more f i),
+          let yes_here : f i ≡ true = sym c.has_aid.ensures ∙ w.if-has_aid.true in (
+            w.count-is ∙ ap (λ n. n + 1) c.loop-i.invariant.0 ∙ ap (λ b. count_of f i + cond b 1 0) (sym yes_here) ∙ sym (count_more f i),
+            w.last-is ∙ ap (λ b. cond b i (last_of f i)) (sym yes_here) ∙ sym (last_more f i),
             omega (arith, w.count-is),
             omega (arith, w.last-is),
           )
       | else-has_aid w ↦
-          let no-here : f i ≡ false = sym c.has_aid.ensures ∙ w.if-has_aid.false in (
-            w.count-is ∙ c.loop-i.invariant.0 ∙ sym (add-zero (count_of f i)) ∙ ap (λ b. count_of f i + cond b 1 0) (sym no-here) ∙ sym (count_more f i),
-            w.last-is ∙ c.loop-i.invariant.1 ∙ ap (λ b. cond b i (last_of f i)) (sym no-here) ∙ sym (last_more f i),
+          let no_here : f i ≡ false = sym c.has_aid.ensures ∙ w.if-has_aid.false in (
+            w.count-is ∙ c.loop-i.invariant.0 ∙ sym (add-zero (count_of f i)) ∙ ap (λ b. count_of f i + cond b 1 0) (sym no_here) ∙ sym (count_more f i),
+            w.last-is ∙ c.loop-i.invariant.1 ∙ ap (λ b. cond b i (last_of f i)) (sym no_here) ∙ sym (last_more f i),
             omega (arith, w.count-is),
             omega (arith, w.last-is),
           )
