@@ -3,7 +3,6 @@
 
 mod options;
 
-use anyhow::anyhow;
 use calls::{is_passed_over, parse_call, perform, record_line, trim};
 use card::{Card, ImageCard, TearCard};
 use full_listing::{Input, input_of};
@@ -11,30 +10,32 @@ use layout::Image;
 use options::{Options, options_of};
 use station::Station;
 use std::io::{BufRead, BufReader, Write};
+use std::process::ExitCode;
 use std::{fs, io};
 use text::{profile_line, refused_line};
 
 const USAGE: &str =
     "usage: desk LETTER IMAGE [--station N] [--last N] [--tear COUNT old|new|HEX32 LAYS] [--save FILE], calls on standard input";
 
-fn main(rt: HostRuntime) -> anyhow::Result<()> {
+fn main(rt: HostRuntime) -> anyhow::Result<ExitCode> {
     let Some(options) = options_of(&rt) else {
         eprintln!(rt; "{USAGE}")?;
-        return Err(anyhow!("arguments"));
+        return Ok(ExitCode::FAILURE);
     };
     let Ok(bytes) = fs::read(&rt, options.path.as_str()) else {
         let path = options.path;
         eprintln!(rt; "desk: cannot read {path}: expected the path of a card image of 4096 bytes")?;
-        return Err(anyhow!("image"));
+        return Ok(ExitCode::FAILURE);
     };
     match input_of(options.letter.as_str(), bytes.as_slice()) {
         Ok(input) => {
             let image = run(&rt, input, &options)?;
-            save(&rt, &image, &options)
+            save(&rt, &image, &options)?;
+            Ok(ExitCode::SUCCESS)
         }
         Err(refusal) => {
             print!(rt; "{}", refused_line(rt.alloc(), refusal.number())?)?;
-            Err(anyhow!("refused"))
+            Ok(ExitCode::FAILURE)
         }
     }
 }

@@ -1,5 +1,5 @@
 -- What a checksum is for. Assumes nothing.
-use Rattle.std.specs.Prelude.{◌≡◌, ℕ, ◌<◌, List, length, fold, ◌≢◌, slice_index, slice_index_or}
+use Rattle.std.specs.Prelude.{◌≡◌, ℕ, ◌<◌, List, length, fold, ◌≢◌, slice_index}
 use Rattle.std.specs.List.{AllByRecursion}
 
 -- a string of bytes
@@ -11,7 +11,7 @@ pub record DifferInOne (xs ys : List ℕ) : Type 0 where
   pub long : length ys ≡ length xs
   pub place : ℕ
   pub within : place < length xs
-  pub there : slice_index_or ys place 0 ≡ slice_index xs place → ⊥
+  pub there : slice_index ys place ≢ slice_index xs place
   pub elsewhere : (k : ℕ) → (k ≢ place) → slice_index ys k ≡ slice_index xs k
 
 -- one changed byte changes the checksum
