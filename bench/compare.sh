@@ -1,19 +1,20 @@
 #!/usr/bin/env bash
-# compare.sh [LETTER IMAGE]: the proved lister beside one in plain Rust, by instructions executed.
+# compare.sh [LETTER IMAGE]: the proved fuller listing (the program samples) beside a lister in plain Rust, by instructions executed.
 #
 #   bench/compare.sh                  # the full card: bench/full.mfd, which takes letter D
 #   bench/compare.sh A some-card.mfd
 #
 # bench/full.mfd has all ten items and all eleven services, and no block is free; bench/full.txt is its listing.
-# Needs rustc and valgrind, and target/bin/lister, which `rt check lister` builds.
+# Needs rustc and valgrind, and crates/samples/out/samples, which `rt run` in crates/samples builds.
 # Each program runs twice: on the image, and on an empty file, which it refuses at once. The second run is the cost of
 # starting up, so the difference is the cost of the listing. Instructions are counted and not timed: the figures hardly
-# change from run to run. The status is 0 if both programs ran and print the same.
+# change from run to run. samples prints the path first, which is left out of the comparison. The status is 0 if both
+# programs ran and print the same.
 set -euo pipefail
 
 here=$(cd "$(dirname "$0")" && pwd)
 top=$(dirname "$here")
-proved=$top/target/bin/lister
+proved=$top/crates/samples/out/samples
 
 case $# in
   0) letter=D image=$here/full.mfd ;;
@@ -46,27 +47,25 @@ row() {
   printf '%-14s %12d %12d %12d\n' "$1" "$listing" "$start" $((listing - start))
 }
 
-# What a program prints, and its status.
+# What a program prints of the image.
 record() {
-  local status=0
-  "$1" "$letter" "$image" || status=$?
-  echo "status $status"
+  "$1" "$letter" "$image" || [ $? -eq 1 ]
 }
 
 result=0
 record "$plain" >"$work/plain.txt"
-if [ $# -eq 0 ] && ! diff "$here/full.txt" <(sed '$d' "$work/plain.txt"); then
+if [ $# -eq 0 ] && ! diff "$here/full.txt" "$work/plain.txt"; then
   echo "compare.sh: the Rust lister does not print bench/full.txt" >&2
   result=1
 fi
 if [ ! -x "$proved" ]; then
-  echo "compare.sh: $proved is missing, build it with: rt check lister" >&2
+  echo "compare.sh: $proved is missing, build it with: (cd crates/samples && rt run)" >&2
   result=1
 else
   if [ -n "$(find "$top/crates" -path '*/src/*' -newer "$proved" -print -quit)" ]; then
     echo "compare.sh: $proved is older than the sources, and may be out of date" >&2
   fi
-  record "$proved" >"$work/proved.txt" 2>/dev/null
+  record "$proved" | tail -n +2 >"$work/proved.txt"
   if ! diff "$work/plain.txt" "$work/proved.txt" >"$work/diff.txt"; then
     echo "compare.sh: the listings differ (< Rust, > proved):" >&2
     cat "$work/diff.txt" >&2

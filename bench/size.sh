@@ -5,12 +5,14 @@ here=$(cd "$(dirname "$0")/.." && pwd)
 work=$(mktemp -d); trap 'rm -rf "$work"' EXIT
 mkdir -p "$work/crates/probe/src"
 for crate in layout card directory service station; do
-  cp -r "$here/crates/$crate" "$work/crates/"; rm -rf "$work/crates/$crate/must-fail"
+  cp -r "$here/crates/$crate" "$work/crates/"; rm -rf "$work/crates/$crate/must-fail" "$work/crates/$crate/out"
 done
 grep -E '^(layout|card|directory|service|station):' "$here/crates.txt" >"$work/crates.txt"
-echo 'probe: layout card station' >>"$work/crates.txt"
+echo 'probe staticlib: layout card station' >>"$work/crates.txt"
 cat >"$work/crates/probe/src/lib.rt" <<'RT'
 // The calls of a station over an image card, exported.
+#![tactic(auto)]
+
 use card::ImageCard;
 use card::ImageCardCard;
 use layout::Image;
@@ -40,8 +42,8 @@ pub extern "C" fn station_read(image: &mut Image, number: u16, buffer: &mut [u8]
     }
 }
 RT
-cd "$work"
-rt staticlib probe >"$work/log" 2>&1 || { tail -n 20 "$work/log" >&2; exit 1; }
-size -t target/staticlib/libprobe.a
+cd "$work/crates/probe"
+rt lib >"$work/log" 2>&1 || { tail -n 20 "$work/log" >&2; exit 1; }
+size -t out/libprobe.a
 printf '#include <stdio.h>\n#include <stddef.h>\nsize_t station_bytes(void);\nint main(void) { printf("a station: %%zu bytes\\n", station_bytes()); return 0; }\n' >main.c
-cc main.c target/staticlib/libprobe.a -o main && ./main
+cc main.c out/libprobe.a -o main && ./main
