@@ -14,7 +14,6 @@ cat >"$work/crates/probe/src/lib.rt" <<'RT'
 #![tactic(auto)]
 
 use card::ImageCard;
-use card::ImageCardCard;
 use layout::Image;
 use layout::Profile;
 use station::Station;

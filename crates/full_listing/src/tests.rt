@@ -208,7 +208,7 @@ fn check_verdict(
 }
 
 #[test]
-fn application_directory(rt: HostRuntime) -> Result<(), Fail> {
+fn application_directory() -> Result<(), Fail> {
     check_verdict("F", sample(), 1, 0, "application directory")?;
     check_verdict("A", altered(&[]), 0, 0, "application directory")?;
     check_verdict("D", sample_d(&[]), 0, 0, "application directory")?;
@@ -249,7 +249,7 @@ const NSCP: [(Edits, &str, u8, usize); 12] = [
 ];
 
 #[test]
-fn nscp_directory(rt: HostRuntime) -> Result<(), Fail> {
+fn nscp_directory() -> Result<(), Fail> {
     check_verdict("A", broken(&[(111, 1)]), 6, 4, "checksum")?;
     for (edits, wrong, number, place) in NSCP {
         check_verdict("A", altered(edits), number, place, wrong)?;
@@ -286,7 +286,7 @@ const SLOTS: [(Edits, &str, u8, usize); 9] = [
 ];
 
 #[test]
-fn services_directory(rt: HostRuntime) -> Result<(), Fail> {
+fn services_directory() -> Result<(), Fail> {
     check_verdict("A", broken(&[(175, 1)]), 9, 8, "checksum")?;
     for (edits, wrong, number, place) in SLOTS {
         check_verdict("A", altered(edits), number, place, wrong)?;
@@ -370,7 +370,7 @@ fn check_leaving_run(i: u8, block: usize) -> Result<(), Fail> {
 }
 
 #[test]
-fn a_card_that_leaves_in_a_run(rt: HostRuntime) -> Result<(), Fail> {
+fn a_card_that_leaves_in_a_run() -> Result<(), Fail> {
     for i in 0..4u8 {
         check_leaving_run(i, RUN[i as usize])?;
     }
