@@ -62,7 +62,7 @@ if [ ! -x "$proved" ]; then
   echo "compare.sh: $proved is missing, build it with: (cd crates/samples && rt run)" >&2
   result=1
 else
-  if [ -n "$(find "$top/crates" -path '*/src/*' -newer "$proved" -print -quit)" ]; then
+  if [ -n "$(find "$top/crates" -path '*/src/*' -not -path '*/out/*' -newer "$proved" -print -quit)" ]; then
     echo "compare.sh: $proved is older than the sources, and may be out of date" >&2
   fi
   record "$proved" | tail -n +2 >"$work/proved.txt"
