@@ -32,7 +32,7 @@ trap 'rm -rf "$work"' EXIT
 plain=$work/lister
 rustc -O --edition 2021 -o "$plain" "$here/lister.rs"
 
-# The instructions that a program executes on an image; a listing that is refused ends with status 1.
+# The instructions that a program executes on an image; the plain lister ends a refused listing with status 1.
 instructions() {
   local log=$work/callgrind.log
   valgrind --tool=callgrind --callgrind-out-file=/dev/null "$1" "$letter" "$2" >/dev/null 2>"$log" || [ $? -eq 1 ]

@@ -1,4 +1,4 @@
-//! lister LETTER IMAGE in plain Rust, to measure the proved lister against.
+//! lister LETTER IMAGE in plain Rust, to measure the proved fuller listing (the program samples) against.
 //! `compare.sh` builds and runs it.
 
 use std::fmt;

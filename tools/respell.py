@@ -1,7 +1,7 @@
 #!/usr/bin/env python3
 """Brings the repository's own names in specs/, in proofs/ and in clauses to one spelling: words in snake case, a prime as an apostrophe.
 
-usage: python3 tools/respell.py [--dry]     at the top of the repository, once, after port.py
+usage: python3 tools/respell.py [--dry] [--names]     at the top of the repository, once, after port.py; --names lists each name, old and new
 
 Types and modules keep upper camel case. Names that come from a library, from the sources or from the check (the goals and steps of a proof) stay.
 It goes by text: what it changes and which names fall together is printed.
@@ -12,7 +12,7 @@ import glob
 import re
 import sys
 
-# lemmas that would fall together with a definition or a field
+# lemmas, and a field of a record in a proof, that would fall together with another name
 APART = {"is-sealed": "is_sealed_lem", "nscp-sector": "nscp_sector_lem", "on-card": "on_card_lem", "run-read": "run_read_lem", "slots-judged": "slots_judged_lem"}
 # text that only looks like a name
 LEFT = {"nABCD"}

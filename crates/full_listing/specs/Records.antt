@@ -1,4 +1,4 @@
--- The record that the lister prints of a card image. Assumes nothing.
+-- The fuller record of a card image, with its services read. Assumes nothing.
 use Rattle.std.specs.Prelude.{ℕ, zero, suc, ◌/◌, ◌%◌, Bool, false, List, [], ◌++◌, is_ok, Some, None, Ok, Err, codes, decimal, Option}
 use Rattle.std.specs.Option.{ok_or}
 use Rattle.layout.specs.Images.{image_of}

@@ -1,4 +1,4 @@
-// What the lister is given: a profile letter and the bytes of an image.
+// What a program that reads services is given: a profile letter and the bytes of an image.
 ghost use Rattle.std.specs.Prelude.{◌≡◌};
 ghost use Rattle.full_listing.specs.Records.{input_of};
 

@@ -1,4 +1,4 @@
-// What the lister says of a card image.
+// What the fuller listing says of a card image.
 #![tactic(auto)]
 
 pub mod cards;
