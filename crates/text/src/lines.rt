@@ -1,9 +1,10 @@
 // Lines of a record.
 ghost use Rattle.std.specs.Prelude.{◌≡◌, IfOk, string_bytes};
 ghost use Rattle.layout.specs.Profiles.{letter_of};
+ghost use Rattle.layout.specs.Refusals.{number_of};
 ghost use Rattle.text.specs.Lines.{profile_line, refused_line};
 
-use layout::Profile;
+use layout::{Profile, Refusal};
 use std::alloc::{AllocError, Global};
 
 // `profile A`
@@ -14,9 +15,10 @@ pub fn profile_line(heap: Global, profile: Profile) -> Result<String, AllocError
     format!(in heap; "profile {letter}\n")
 }
 
-// `refused 4`, by the number of a refusal
-pub fn refused_line(heap: Global, number: u8) -> Result<String, AllocError>
-    ensures { IfOk result (λ s. string_bytes s ≡ refused_line number) }
+// `refused 4`, by the number of the reason
+pub fn refused_line(heap: Global, refusal: Refusal) -> Result<String, AllocError>
+    ensures { IfOk result (λ s. string_bytes s ≡ refused_line (number_of refusal.reason)) }
 {
+    let number = refusal.number();
     format!(in heap; "refused {number}\n")
 }

@@ -1,0 +1,29 @@
+-- The text that the library's `encode_upper` writes is that of `hex_bytes`. Assumes nothing.
+use Rattle.std.proofs.Common.{◌≡◌, ℕ, zero, suc, ◌<◌, ◌==◌, ◌/◌, ◌%◌, Bool, true, ◌&&◌, List, [], ◌∷◌, slice_index, get_or, inl, inr, refl, arith}
+use Rattle.std.proofs.lemmas.Bool.{and_parts, cases_lt, eqb-true}
+use Rattle.hex.specs.Hex.{encode_with, upper_digits}
+use Rattle.text.specs.Hex.{hex_digit, hex_bytes}
+
+-- the first n digits of the table are those of `hex_digit`
+abbrev same_digits : ℕ → Bool
+same_digits zero = true
+same_digits (suc n) = slice_index upper_digits n == hex_digit n && same_digits n
+
+same_digit : (n d : ℕ) → same_digits n ≡ true → d < n → slice_index upper_digits d ≡ hex_digit d
+same_digit zero d same h = absurd (omega arith)
+same_digit (suc n) d same h =
+    let parts = and_parts (slice_index upper_digits n == hex_digit n) (same_digits n) same in
+    elim (cases_lt d n) [
+      | inl below ↦ same_digit n d parts.1 below
+      | inr top ↦ let e : d ≡ n = omega arith in rw e (eqb-true _ _ parts.0)
+    ]
+
+pub encode_upper_is : (xs : List ℕ) → ((i : ℕ) → get_or xs i 0 < 256) → encode_with upper_digits xs ≡ hex_bytes xs
+unfolding encode_with
+encode_upper_is [] small = refl
+encode_upper_is (b ∷ bs) small =
+    let fits : b < 256 = small 0 in
+    let high = same_digit 16 (b / 16) refl (omega arith) in
+    let low = same_digit 16 (b % 16) refl (omega arith) in
+    let rest = encode_upper_is bs (λ i. small (suc i)) in
+    cc
