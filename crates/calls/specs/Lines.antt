@@ -1,7 +1,8 @@
 -- Lines as calls. Assumes nothing.
-use Rattle.std.specs.Prelude.{ℕ, Bool, true, cond, List, [], ◌∷◌, length, take, Some, None, codes, Option, ◌==◌}
+use Rattle.std.specs.Prelude.{ℕ, Bool, true, cond, List, [], ◌∷◌, length, take, None, codes, Option, option_and_then, ◌==◌}
+use Rattle.std.specs.Bool.{then_some}
 use Rattle.std.specs.Str.{bytes_eq}
-use Rattle.calls.specs.Digits.{and_then, number_of}
+use Rattle.calls.specs.Digits.{number_of}
 use Rattle.calls.specs.Words.{word_length, rest_after}
 use Rattle.calls.specs.declared.parse.Call.{Call}
 use Rattle.calls.specs.declared.parse.Call.TheVariants.{Find, Read, Lay}
@@ -17,29 +18,28 @@ word_of xs = take (word_length xs) xs
 
 -- four hexadecimal digits
 abbrev pub service_number : List ℕ → Option ℕ
-service_number = number_of 16 4 4 65535
+service_number = number_of (record { base = 16; fewest = 4; longest = 4; most = 65535 })
 
 -- a decimal of one to ten digits, at most 65535
 abbrev pub room_of : List ℕ → Option ℕ
-room_of = number_of 10 1 10 65535
+room_of = number_of (record { base = 10; fewest = 1; longest = 10; most = 65535 })
 
 -- a call, if nothing stands behind it
 abbrev pub ended : List ℕ → Call → Option Call
-ended rest call = cond (length rest == 0) (Some call) None
+ended rest call = then_some (length rest == 0) call
 
--- what follows `find`, `read` and `lay`
+-- what follows `find` and `read`
 abbrev pub find_of : List ℕ → Option Call
-find_of xs = and_then (service_number (word_of xs)) (λ n. ended (rest_after xs) (Find n))
+find_of xs = option_and_then (λ n. ended (rest_after xs) (Find n)) (service_number (word_of xs))
 
 abbrev pub read_of : List ℕ → Option Call
-read_of xs = and_then (service_number (word_of xs)) (λ n. and_then (room_of (word_of (rest_after xs))) (λ room. ended (rest_after (rest_after xs)) (Read n room)))
-
-abbrev pub lay_of : List ℕ → Option Call
-lay_of xs = ended xs Lay
+read_of xs =
+    let after = rest_after xs in
+    option_and_then (λ n. option_and_then (λ room. ended (rest_after after) (Read n room)) (room_of (word_of after))) (service_number (word_of xs))
 
 -- the call that a line is
 abbrev pub call_of : List ℕ → Option Call
 call_of xs =
     cond (bytes_eq (word_of xs) (codes "find")) (find_of (rest_after xs))
     (cond (bytes_eq (word_of xs) (codes "read")) (read_of (rest_after xs))
-    (cond (bytes_eq (word_of xs) (codes "lay")) (lay_of (rest_after xs)) None))
+    (cond (bytes_eq (word_of xs) (codes "lay")) (ended (rest_after xs) Lay) None))

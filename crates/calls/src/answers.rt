@@ -1,12 +1,12 @@
 // Answers as text.
 ghost use Rattle.std.specs.Prelude.{◌≡◌, ◌++◌, IfOk, string_bytes, codes};
-ghost use Rattle.calls.specs.Answers.{place_words, refused_words, found_words, find_words, lay_words, reading_words, of_frame, touched, buffer_words, read_refused, read_words};
+ghost use Rattle.calls.specs.Answers.{found_words, find_words, lay_words, reading_words, of_frame, touched, read_refused, read_words};
 
 use card::Laid;
-use layout::Refusal;
+use layout::{Reason, Refusal, Run};
 use station::{Found, Reading};
 use std::alloc::{AllocError, Global};
-use text::{hex_byte, hex_bytes};
+use text::hex_bytes;
 
 // What a buffer is filled with before a read.
 pub const FILL: u8 = 0xEE;
@@ -28,30 +28,16 @@ pub(crate) fn find_words(heap: Global, answer: Result<Found, Refusal>) -> Result
 {
     match answer {
         Ok(found) => found_words(heap, found),
-        Err(refusal) => refused_words(heap, refusal),
+        Err(refusal) => format!(in heap; "{refusal}"),
     }
 }
 
+#[tactic(auto, using(text::proofs::Written::hex_byte_written))]
 fn found_words(heap: Global, found: Found) -> Result<String, AllocError>
     ensures { IfOk result (λ s. string_bytes s ≡ found_words found) }
 {
-    let slot = found.slot;
-    let start = hex_byte(heap, found.run.start.0)?;
-    let length = hex_byte(heap, found.run.length)?;
-    format!(in heap; "slot {slot} run {start} {length}")
-}
-
-// `refused 12 at 0`
-fn refused_words(heap: Global, refusal: Refusal) -> Result<String, AllocError>
-    ensures { IfOk result (λ s. string_bytes s ≡ refused_words refusal) }
-{
-    place_words(heap, refusal.number(), refusal.place)
-}
-
-fn place_words(heap: Global, number: u8, place: usize) -> Result<String, AllocError>
-    ensures { IfOk result (λ s. string_bytes s ≡ place_words number place) }
-{
-    format!(in heap; "refused {number} at {place}")
+    let Run { start, length } = found.run;
+    format!(in heap; "slot {} run {:02X} {length:02X}", found.slot, start.0)
 }
 
 // `yes` or `no`
@@ -78,49 +64,44 @@ pub(crate) fn read_words(
     }
 }
 
+#[tactic(auto, using(text::proofs::Written::hex_byte_written))]
 fn reading_words(heap: Global, reading: Reading, buffer: &[u8]) -> Result<String, AllocError>
     ensures { IfOk result (λ s. string_bytes s ≡ reading_words reading buffer.now) }
 {
-    let tag = hex_byte(heap, reading.tag)?;
-    let start = reading.start;
-    let length = reading.length;
+    let Reading {
+        tag,
+        start,
+        length,
+        ..
+    } = reading;
     let bytes = hex_bytes(heap, buffer)?;
-    format!(in heap; "tag {tag} content {start} {length} buffer {bytes}")
+    format!(in heap; "tag {tag:02X} content {start} {length} buffer {bytes}")
 }
 
 fn read_refused(heap: Global, refusal: Refusal, buffer: &[u8]) -> Result<String, AllocError>
     ensures { IfOk result (λ s. string_bytes s ≡ read_refused refusal buffer.now) }
 {
-    let mut text = refused_words(heap, refusal)?;
-    if is_of_frame(refusal.number()) || is_touched(buffer) {
-        let words = buffer_words(heap, buffer)?;
-        text.push_str(words.as_str())?;
+    if is_of_frame(refusal.reason) || is_touched(buffer) {
+        let bytes = hex_bytes(heap, buffer)?;
+        format!(in heap; "{refusal} buffer {bytes}")
+    } else {
+        format!(in heap; "{refusal}")
     }
-    Ok(text)
 }
 
-fn buffer_words(heap: Global, buffer: &[u8]) -> Result<String, AllocError>
-    ensures { IfOk result (λ s. string_bytes s ≡ buffer_words buffer.now) }
+// Whether the refusal comes after a whole run was read.
+fn is_of_frame(reason: Reason) -> bool
+    ensures { result ≡ of_frame reason }
 {
-    let bytes = hex_bytes(heap, buffer)?;
-    format!(in heap; " buffer {bytes}")
-}
-
-// Whether the refusal of this number comes after a whole run was read.
-fn is_of_frame(number: u8) -> bool
-    ensures { result ≡ of_frame number }
-{
-    matches!(number, 13..=16)
+    matches!(
+        reason,
+        Reason::DataFrame | Reason::DataChecksum | Reason::DataObject | Reason::DataPadding
+    )
 }
 
 // Whether a byte of a buffer is no longer what it was filled with.
 fn is_touched(buffer: &[u8]) -> bool
     ensures { result ≡ touched buffer.now }
 {
-    for byte in buffer {
-        if *byte != FILL {
-            return true;
-        }
-    }
-    false
+    buffer.iter().any(|byte| *byte != FILL)
 }

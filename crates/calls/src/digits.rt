@@ -2,30 +2,34 @@
 ghost use Rattle.std.specs.Prelude.{◌≡◌, ◌≤◌, IfSome};
 ghost use Rattle.calls.specs.Digits.{digit_of, one_more, number_in, number_of};
 
-// The number in a word of so many digits to a base; none if it has fewer or more digits, another byte, or is larger than the most.
-pub fn number_of(word: &[u8], base: u64, fewest: usize, longest: usize, most: u64) -> Option<u64>
-    ensures value { result ≡ number_of base fewest longest most word.now }
-    ensures bound { IfSome result (λ n. n ≤ most) }
-{
-    if word.len() < fewest || word.len() > longest {
-        return None;
+// How a number is written: to which base, in how many digits at least and at most, and the largest that is taken.
+#[derive(Clone, Copy, PartialEq, Eq, Debug)]
+pub struct Notation {
+    pub base: u64,
+    pub fewest: usize,
+    pub longest: usize,
+    pub most: u64,
+}
+
+impl Notation {
+    // The number in a word; none if it has fewer or more digits, another byte, or is larger than the most.
+    pub fn number_of(self, word: &[u8]) -> Option<u64>
+        ensures value { result ≡ number_of self word.now }
+        ensures bound { IfSome result (λ n. n ≤ self.most) }
+    {
+        if word.len() < self.fewest || word.len() > self.longest {
+            return None;
+        }
+        number_in(word, self.base).filter(|value| *value <= self.most)
     }
-    let value = number_in(word, base)?;
-    if value > most {
-        return None;
-    }
-    Some(value)
 }
 
 // The number that digits to a base write; none if another byte stands among them, or it passes 64 bits.
 fn number_in(word: &[u8], base: u64) -> Option<u64>
     ensures { result ≡ number_in base word.now }
 {
-    let mut value = 0u64;
-    for byte in word {
-        value = one_more(value, *byte, base)?;
-    }
-    Some(value)
+    word.iter()
+        .try_fold(0, |value, byte| one_more(value, *byte, base))
 }
 
 // A number with one digit more behind it.
@@ -43,10 +47,5 @@ fn one_more(value: u64, byte: u8, base: u64) -> Option<u64>
 fn digit_of(byte: u8) -> Option<u64>
     ensures { result ≡ digit_of byte }
 {
-    match byte {
-        b'0'..=b'9' => Some((byte - b'0') as u64),
-        b'A'..=b'F' => Some((byte - b'A') as u64 + 10),
-        b'a'..=b'f' => Some((byte - b'a') as u64 + 10),
-        _ => None,
-    }
+    char::from(byte).to_digit(16).map(|digit| u64::from(digit))
 }

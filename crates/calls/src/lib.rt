@@ -8,7 +8,7 @@ pub mod parse;
 pub mod words;
 
 pub use answers::record_line;
-pub use digits::number_of;
+pub use digits::Notation;
 pub use making::perform;
 pub use parse::{Call, is_passed_over, parse_call};
 pub use words::{first_word, trim};

@@ -47,8 +47,7 @@ fn say_filled<C: Card>(
     ensures { ReadSaid C.blocks C.present C.steady number (replicate room 0xEE) station.old station.new result }
 {
     let mut buffer = [FILL; LONGEST];
-    let end = room as usize;
-    say_read(heap, station, number, &mut buffer[0..end])
+    say_read(heap, station, number, &mut buffer[..usize::from(room)])
 }
 
 fn say_read<C: Card>(

@@ -1,9 +1,9 @@
 // Lines as calls.
-ghost use Rattle.std.specs.Prelude.{◌≡◌, ◌||◌};
-ghost use Rattle.std.specs.Str.{bytes_eq};
-ghost use Rattle.calls.specs.Lines.{passed_over, service_number, room_of, find_of, read_of, lay_of, call_of};
+ghost use Rattle.std.specs.Prelude.{◌≡◌, ◌<◌, ◌^◌};
+ghost use Rattle.calls.specs.Digits.{number_of};
+ghost use Rattle.calls.specs.Lines.{passed_over, ended, find_of, read_of, call_of};
 
-use crate::digits::number_of;
+use crate::digits::Notation;
 use crate::words::{Split, first_word};
 
 // A call of a station.
@@ -14,14 +14,27 @@ pub enum Call {
     Lay,
 }
 
+// Four hexadecimal digits.
+const SERVICE_NUMBER: Notation = Notation {
+    base: 16,
+    fewest: 4,
+    longest: 4,
+    most: 0xFFFF,
+};
+
+// A decimal of one to ten digits, at most 65535.
+const ROOM: Notation = Notation {
+    base: 10,
+    fewest: 1,
+    longest: 10,
+    most: 0xFFFF,
+};
+
 // Whether a line is empty or a remark.
 pub fn is_passed_over(line: &[u8]) -> bool
     ensures { result ≡ passed_over line.now }
 {
-    match line {
-        [] => true,
-        [first, ..] => *first == b'#',
-    }
+    matches!(line, [] | [b'#', ..])
 }
 
 // The call that a line without blanks at its ends is: `find NNNN`, `read NNNN ROOM` or `lay`; none if it is no call.
@@ -29,69 +42,44 @@ pub fn parse_call(line: &[u8]) -> Option<Call>
     ensures { result ≡ call_of line.now }
 {
     let Split { word, rest } = first_word(line);
-    if is_word(word, b"find") {
-        return parse_find(rest);
+    match word {
+        b"find" => parse_find(rest),
+        b"read" => parse_read(rest),
+        b"lay" => ended(rest, Call::Lay),
+        _ => None,
     }
-    if is_word(word, b"read") {
-        return parse_read(rest);
-    }
-    if is_word(word, b"lay") {
-        return parse_lay(rest);
-    }
-    None
-}
-
-fn is_word(word: &[u8], name: &[u8]) -> bool
-    ensures { result ≡ bytes_eq word.now name.now }
-{
-    word == name
 }
 
 fn parse_find(line: &[u8]) -> Option<Call>
     ensures { result ≡ find_of line.now }
 {
     let Split { word, rest } = first_word(line);
-    let number = service_number(word)?;
-    if rest.len() != 0 {
-        return None;
-    }
-    Some(Call::Find { number })
+    let number = short_number(word, SERVICE_NUMBER)?;
+    ended(rest, Call::Find { number })
 }
 
 fn parse_read(line: &[u8]) -> Option<Call>
     ensures { result ≡ read_of line.now }
 {
     let Split { word, rest } = first_word(line);
-    let number = service_number(word)?;
+    let number = short_number(word, SERVICE_NUMBER)?;
     let Split { word, rest } = first_word(rest);
-    let room = room_of(word)?;
-    if rest.len() != 0 {
-        return None;
-    }
-    Some(Call::Read { number, room })
+    let room = short_number(word, ROOM)?;
+    ended(rest, Call::Read { number, room })
 }
 
-fn parse_lay(rest: &[u8]) -> Option<Call>
-    ensures { result ≡ lay_of rest.now }
+// A call, if nothing stands behind it.
+fn ended(rest: &[u8], call: Call) -> Option<Call>
+    ensures { result ≡ ended rest.now call }
 {
-    if rest.len() != 0 {
-        return None;
-    }
-    Some(Call::Lay)
+    rest.is_empty().then_some(call)
 }
 
-// Four hexadecimal digits.
-fn service_number(word: &[u8]) -> Option<u16>
-    ensures { result ≡ service_number word.now }
+// A number of at most 65535.
+fn short_number(word: &[u8], notation: Notation) -> Option<u16>
+    requires { notation.most < 2 ^ 16 }
+    ensures { result ≡ number_of notation word.now }
 {
-    let number = number_of(word, 16, 4, 4, 0xFFFF)?;
-    Some(number as u16)
-}
-
-// A decimal of one to ten digits, at most 65535.
-fn room_of(word: &[u8]) -> Option<u16>
-    ensures { result ≡ room_of word.now }
-{
-    let room = number_of(word, 10, 1, 10, 0xFFFF)?;
-    Some(room as u16)
+    let number = notation.number_of(word)?;
+    u16::try_from(number).ok()
 }

@@ -12,6 +12,7 @@ pub struct Split<'a> {
 
 // What stands between words, and what may stand at the ends of a line.
 const BLANKS: &[u8] = b" \t";
+
 const END_BLANKS: &[u8] = b" \t\r";
 
 // The line without the blanks at both ends.
@@ -39,7 +40,9 @@ fn word_length(line: &[u8]) -> usize
     ensures value { result ≡ word_length line.now }
     ensures within { result ≤ length line.now }
 {
-    line.iter().take_while(|byte| !BLANKS.contains(*byte)).count()
+    line.iter()
+        .take_while(|byte| !BLANKS.contains(*byte))
+        .count()
 }
 
 // How many bytes at the front are of a set, and how many at the end.
@@ -54,5 +57,8 @@ fn count_behind(line: &[u8], set: &[u8]) -> usize
     ensures value { result ≡ suffix_len (is_one_of set.now) line.now }
     ensures within { result ≤ length line.now }
 {
-    line.iter().rev().take_while(|byte| set.contains(*byte)).count()
+    line.iter()
+        .rev()
+        .take_while(|byte| set.contains(*byte))
+        .count()
 }

@@ -1,1 +1,1 @@
-pub mod Upper
+pub mod Written

@@ -11,8 +11,7 @@ use std::alloc::{AllocError, Global};
 pub fn profile_line(heap: Global, profile: Profile) -> Result<String, AllocError>
     ensures { IfOk result (λ s. string_bytes s ≡ profile_line (letter_of profile)) }
 {
-    let letter = profile.letter();
-    format!(in heap; "profile {letter}\n")
+    format!(in heap; "profile {profile}\n")
 }
 
 // `refused 4`, by the number of the reason

@@ -1,5 +1,5 @@
 use Rattle.std.proofs.Common.{rules, arith}
-use Rattle.text.proofs.Upper.{encode_upper_is}
+use Rattle.text.proofs.Written.{encode_upper_is}
 use Rattle.text.proofs.hexadecimal.hex_bytes.Goals as goal
 
 pub returns : goal.returns

@@ -1,8 +1,14 @@
--- The text that the library's `encode_upper` writes is that of `hex_bytes`. Assumes nothing.
-use Rattle.std.proofs.Common.{◌≡◌, ℕ, zero, suc, ◌<◌, ◌==◌, ◌/◌, ◌%◌, Bool, true, ◌&&◌, List, [], ◌∷◌, slice_index, get_or, inl, inr, refl, arith}
+-- What the library writes of bytes is the text of `hex_byte` and `hex_bytes`. Assumes nothing.
+use Rattle.std.proofs.Common.{◌≡◌, ℕ, zero, suc, ◌<◌, ◌==◌, ◌/◌, ◌%◌, Bool, true, ◌&&◌, List, [], ◌∷◌, ◌-◌, ◌^◌, false, slice_index, get_or, inl, inr, refl, arith}
 use Rattle.std.proofs.lemmas.Bool.{and_parts, cases_lt, eqb-true}
+use Rattle.std.proofs.lemmas.Fmt as fmt
+use Rattle.std.specs.Fmt.{digits, padded_integral, format_spec}
 use Rattle.hex.specs.Hex.{encode_with, upper_digits}
-use Rattle.text.specs.Hex.{hex_digit, hex_bytes}
+use Rattle.text.specs.Hex.{hex_digit, hex_byte, hex_bytes}
+
+-- what `{:02X}` writes of a byte
+pub hex_byte_written : (b : ℕ) → b < 256 → padded_integral (format_spec 32 0 4 2 (2 ^ 64 - 1)) false [] (digits 16 true b) ≡ hex_byte b
+hex_byte_written = fmt.hex_byte true
 
 -- the first n digits of the table are those of `hex_digit`
 abbrev same_digits : ℕ → Bool
