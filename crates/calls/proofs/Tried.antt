@@ -1,5 +1,5 @@
 -- A `try_fold` over a slice, whose closure gives `step` of the value so far and the next item, gives the fold of `step`. Assumes nothing.
-use Rattle.std.proofs.Common.{◌≡◌, ℕ, List, [], ◌∷◌, length, Iter, Option, Some, None, MatchOption, Continue, Break, fold, option_and_then, refl, sym, ap, ◌∙◌, subst, arith}
+use Rattle.std.proofs.Common.{◌≡◌, ℕ, List, [], ◌∷◌, length, Iter, Option, Some, None, MatchOption, fold, option_and_then, refl, sym, ap, ◌∙◌, subst, arith}
 use Rattle.std.specs.ControlFlow.{continue_value}
 use Rattle.std.specs.Fn.{Called}
 use Rattle.std.specs.Iterator.{Yields, TryFoldTurn, TryFoldsItems}

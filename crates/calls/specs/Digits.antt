@@ -1,5 +1,5 @@
 -- Numbers as a clerk writes them. Assumes nothing.
-use Rattle.std.specs.Prelude.{ℕ, ◌+◌, ◌*◌, Bool, cond, ◌&&◌, ◌||◌, List, length, Some, None, Option, fold, option_and_then, nat_le, nat_lt}
+use Rattle.std.specs.Prelude.{ℕ, ◌+◌, ◌*◌, cond, ◌&&◌, ◌||◌, List, length, Some, None, Option, fold, option_and_then, nat_le, nat_lt}
 use Rattle.std.specs.Bool.{then_some}
 use Rattle.std.specs.Char.{digit_value}
 use Rattle.calls.specs.declared.digits.Notation.{Notation}

@@ -17,7 +17,7 @@ impl Notation {
         ensures value { result ≡ number_of self word.now }
         ensures bound { IfSome result (λ n. n ≤ self.most) }
     {
-        if word.len() < self.fewest || word.len() > self.longest {
+        if !(self.fewest..=self.longest).contains(&word.len()) {
             return None;
         }
         number_in(word, self.base).filter(|value| *value <= self.most)
@@ -36,10 +36,7 @@ fn number_in(word: &[u8], base: u64) -> Option<u64>
 fn one_more(value: u64, byte: u8, base: u64) -> Option<u64>
     ensures { result ≡ one_more base value byte }
 {
-    let digit = digit_of(byte)?;
-    if digit >= base {
-        return None;
-    }
+    let digit = digit_of(byte).filter(|digit| *digit < base)?;
     value.checked_mul(base)?.checked_add(digit)
 }
 

@@ -1,4 +1,4 @@
-use Rattle.std.proofs.Common.{◌≡◌, ℕ, take, replicate, rules, arith}
+use Rattle.std.proofs.Common.{◌≡◌, ℕ, take, replicate, arith}
 use Rattle.std.proofs.lemmas.List.{take-replicate}
 use Rattle.calls.proofs.making.say_filled.Goals as goal
 
