@@ -29,10 +29,10 @@ abbrev pub ended : List ℕ → Call → Option Call
 ended rest call = then_some (length rest == 0) call
 
 -- what follows `find` and `read`
-abbrev pub find_of : List ℕ → Option Call
+unfoldable pub find_of : List ℕ → Option Call
 find_of xs = option_and_then (λ n. ended (rest_after xs) (Find n)) (service_number (word_of xs))
 
-abbrev pub read_of : List ℕ → Option Call
+unfoldable pub read_of : List ℕ → Option Call
 read_of xs =
     let after = rest_after xs in
     option_and_then (λ n. option_and_then (λ room. ended (rest_after after) (Read n room)) (room_of (word_of after))) (service_number (word_of xs))

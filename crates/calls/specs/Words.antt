@@ -9,7 +9,7 @@ blanks = codes " \t"
 abbrev pub end_blanks : List ℕ
 end_blanks = codes " \t\r"
 
--- a byte is one of those
+-- a byte is one of a set
 abbrev pub is_one_of : List ℕ → ℕ → Bool
 is_one_of set b = list_any (λ x. x == b) set
 
@@ -17,7 +17,7 @@ is_one_of set b = list_any (λ x. x == b) set
 abbrev pub word_length : List ℕ → ℕ
 word_length = position_or_len (is_one_of blanks)
 
--- without those at its front, and without those at its end
+-- without the bytes of a set at its front, and without those at its end
 abbrev pub trimmed_front : List ℕ → List ℕ → List ℕ
 trimmed_front set xs = drop (prefix_len (is_one_of set) xs) xs
 

@@ -46,7 +46,7 @@ fn say_filled<C: Card>(
 ) -> Result<String, AllocError>
     ensures { ReadSaid C.blocks C.present C.steady number (replicate room 0xEE) station.old station.new result }
 {
-    // An array: a full heap would refuse a Vec before the read, and the contract tells of a read that was made.
+    // An array: where there is no memory, a Vec would fail before the read, and the contract tells of a read that was made.
     let mut buffer = [FILL; LONGEST];
     say_read(heap, station, number, &mut buffer[..usize::from(room)])
 }

@@ -50,6 +50,7 @@ pub fn parse_call(line: &[u8]) -> Option<Call>
     }
 }
 
+#[tactic(auto, unfolding(crate::specs::Lines::find_of))]
 fn parse_find(line: &[u8]) -> Option<Call>
     ensures { result ≡ find_of line.now }
 {
@@ -58,6 +59,7 @@ fn parse_find(line: &[u8]) -> Option<Call>
     ended(rest, Call::Find { number })
 }
 
+#[tactic(auto, unfolding(crate::specs::Lines::read_of))]
 fn parse_read(line: &[u8]) -> Option<Call>
     ensures { result ≡ read_of line.now }
 {
