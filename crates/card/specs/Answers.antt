@@ -1,12 +1,9 @@
 -- What every card does: what its answers say of its blocks and of its presence, before and after. Assumes nothing.
-use Rattle.std.specs.Prelude.{◌≡◌, ℕ, Bool, true, false, cond, List, length}
+use Rattle.std.specs.Prelude.{◌≡◌, ℕ, Bool, true, false, cond, List, length, Ok, Err, Result}
 use Rattle.card.specs.Blocks.{Blocks, put}
+use Rattle.card.specs.declared.interface.Gone.{Gone}
 use Rattle.card.specs.declared.interface.Laid.{Laid}
 use Rattle.card.specs.declared.interface.Laid.TheVariants.{Yes, No}
-use Rattle.card.specs.declared.interface.ReadAnswer.{ReadAnswer}
-use Rattle.card.specs.declared.interface.ReadAnswer.TheVariants.{Bytes, Gone as Unread}
-use Rattle.card.specs.declared.interface.WriteAnswer.{WriteAnswer}
-use Rattle.card.specs.declared.interface.WriteAnswer.TheVariants.{Done, Gone as Unwritten}
 
 -- a block was read: the card was on and is, and nothing changed
 pub record Read (before : Blocks) (on : Bool) (after : Blocks) (still : Bool) (at : ℕ) (bytes : List ℕ) : Type 0 where
@@ -21,9 +18,9 @@ pub record NotRead (before : Blocks) (after : Blocks) (still : Bool) : Type 0 wh
   pub same : after ≡ before
 
 -- what a read's answer says
-abbrev pub ReadSays : Blocks → Bool → Blocks → Bool → ℕ → ReadAnswer → Type 0
-ReadSays before on after still at (Bytes bytes) = Read before on after still at bytes
-ReadSays before on after still at Unread = NotRead before after still
+abbrev pub ReadSays : Blocks → Bool → Blocks → Bool → ℕ → Result (List ℕ) Gone → Type 0
+ReadSays before on after still at (Ok bytes) = Read before on after still at bytes
+ReadSays before on after still at (Err gone) = NotRead before after still
 
 -- a block was written: the card was on and is, and that block alone is the new one
 pub record Written (before : Blocks) (on : Bool) (after : Blocks) (still : Bool) (at : ℕ) (new : List ℕ) : Type 0 where
@@ -39,9 +36,9 @@ pub record NotWritten (before : Blocks) (on : Bool) (after : Blocks) (still : Bo
   pub left : after ≡ cond on (put before at torn) before
 
 -- what a write's answer says
-abbrev pub WriteSays : Blocks → Bool → Blocks → Bool → ℕ → List ℕ → WriteAnswer → Type 0
-WriteSays before on after still at new Done = Written before on after still at new
-WriteSays before on after still at new Unwritten = NotWritten before on after still at
+abbrev pub WriteSays : Blocks → Bool → Blocks → Bool → ℕ → List ℕ → Result (Unit {0}) Gone → Type 0
+WriteSays before on after still at new (Ok done) = Written before on after still at new
+WriteSays before on after still at new (Err gone) = NotWritten before on after still at
 
 -- the lay's answer is yes
 abbrev pub is_yes : Laid → Bool
@@ -52,13 +49,3 @@ is_yes No = false
 pub record LaySays (before : Blocks) (after : Blocks) (still : Bool) (answer : Laid) : Type 0 where
   pub is : still ≡ is_yes answer
   pub same : after ≡ before
-
--- the read was answered
-abbrev pub is_read : ReadAnswer → Bool
-is_read (Bytes bytes) = true
-is_read Unread = false
-
--- the write was answered
-abbrev pub is_done : WriteAnswer → Bool
-is_done Done = true
-is_done Unwritten = false

@@ -1,12 +1,9 @@
 -- The plan of a card that leaves once, and what each call makes of it. Assumes nothing.
-use Rattle.std.specs.Prelude.{◌≡◌, ℕ, zero, suc, Bool, true, false, cond, List}
+use Rattle.std.specs.Prelude.{◌≡◌, ℕ, zero, suc, Bool, true, false, cond, List, Ok, Err, Result}
 use Rattle.card.specs.Blocks.{Blocks, put, blocks_of}
+use Rattle.card.specs.declared.interface.Gone.{Gone}
 use Rattle.card.specs.declared.interface.Laid.{Laid}
 use Rattle.card.specs.declared.interface.Laid.TheVariants.{Yes, No}
-use Rattle.card.specs.declared.interface.ReadAnswer.{ReadAnswer}
-use Rattle.card.specs.declared.interface.ReadAnswer.TheVariants.{Bytes, Gone as Unread}
-use Rattle.card.specs.declared.interface.WriteAnswer.{WriteAnswer}
-use Rattle.card.specs.declared.interface.WriteAnswer.TheVariants.{Done, Gone as Unwritten}
 use Rattle.card.specs.declared.tear.Phase.{Phase}
 use Rattle.card.specs.declared.tear.Phase.TheVariants.{Here, Away, Back}
 use Rattle.card.specs.declared.tear.Plan.{Plan}
@@ -69,18 +66,18 @@ abbrev pub Stays : TearCard → Type 0
 Stays card = card.phase ≡ Back
 
 -- what the plan says of a read
-pub record ReadByPlan (before after : TearCard) (at : ℕ) (answer : ReadAnswer) : Type 0 where
+pub record ReadByPlan (before after : TearCard) (at : ℕ) (answer : Result (List ℕ) Gone) : Type 0 where
   pub plan : after.plan ≡ before.plan
   pub phase : after.phase ≡ touched before.plan before.phase
   pub blocks : tear_blocks after ≡ tear_blocks before
-  pub says : answer ≡ cond (is_answered before.phase) (Bytes (tear_blocks before at)) Unread
+  pub says : answer ≡ cond (is_answered before.phase) (Ok (tear_blocks before at)) (Err (record {}))
 
 -- what the plan says of a write
-pub record WriteByPlan (before after : TearCard) (at : ℕ) (new : List ℕ) (answer : WriteAnswer) : Type 0 where
+pub record WriteByPlan (before after : TearCard) (at : ℕ) (new : List ℕ) (answer : Result (Unit {0}) Gone) : Type 0 where
   pub plan : after.plan ≡ before.plan
   pub phase : after.phase ≡ touched before.plan before.phase
   pub blocks : tear_blocks after ≡ put (tear_blocks before) at (left_bytes before.plan before.phase (tear_blocks before at) new)
-  pub says : answer ≡ cond (is_answered before.phase) Done Unwritten
+  pub says : answer ≡ cond (is_answered before.phase) (Ok tt) (Err (record {}))
 
 -- what the plan says of a lay
 pub record LayByPlan (before after : TearCard) (answer : Laid) : Type 0 where

@@ -2,7 +2,7 @@
 ghost use Rattle.std.specs.Prelude.{◌≡◌, true, length, refl};
 ghost use Rattle.card.specs.Blocks.{put, blocks_of, length_sixteen};
 
-use crate::interface::{Card, Laid, ReadAnswer, WriteAnswer};
+use crate::interface::{Card, Gone, Laid};
 use layout::{Block, Image};
 
 // The lent bytes are the lender's again when the card is let go.
@@ -34,13 +34,13 @@ impl Card for ImageCard<'_> {
 
     ghost there = { λ card s. refl };
 
-    fn read(&mut self, block: Block) -> ReadAnswer {
-        ReadAnswer::Bytes(block_of(self.image, block))
+    fn read(&mut self, block: Block) -> Result<[u8; 16], Gone> {
+        Ok(block_of(self.image, block))
     }
 
-    fn write(&mut self, block: Block, bytes: &[u8; 16]) -> WriteAnswer {
+    fn write(&mut self, block: Block, bytes: &[u8; 16]) -> Result<(), Gone> {
         put_block(self.image, block, bytes);
-        WriteAnswer::Done
+        Ok(())
     }
 
     fn lay(&mut self) -> Laid {

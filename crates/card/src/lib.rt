@@ -7,7 +7,7 @@ pub mod lender;
 pub mod tear;
 
 pub use image::ImageCard;
-pub use interface::{Card, Laid, ReadAnswer, WriteAnswer};
+pub use interface::{Card, Gone, Laid};
 pub use tear::{Phase, Plan, TearCard, Torn};
 
 #[cfg(test)]

@@ -1,12 +1,12 @@
 // A card that leaves the reader once, by a plan.
-ghost use Rattle.std.specs.Prelude.{◌≡◌, true, length};
+ghost use Rattle.std.specs.Prelude.{◌≡◌, true, length, is_ok};
 ghost use Rattle.std.proofs.Common.{ap};
-ghost use Rattle.card.specs.Answers.{ReadSays, WriteSays, LaySays, is_read, is_done, is_yes};
+ghost use Rattle.card.specs.Answers.{ReadSays, WriteSays, LaySays, is_yes};
 ghost use Rattle.card.specs.Blocks.{put, blocks_of, length_sixteen};
 ghost use Rattle.card.specs.Tears.{is_on, is_answered, touched, torn_bytes, tear_blocks, Stays, ReadByPlan, WriteByPlan, LayByPlan};
 
 use crate::image::{block_of, put_block};
-use crate::interface::{Card, Laid, ReadAnswer, WriteAnswer};
+use crate::interface::{Card, Gone, Laid};
 use layout::{Block, Image};
 
 // What a write that is broken off leaves in its block.
@@ -98,24 +98,24 @@ impl Card for TearCard<'_> {
 
     ghost there = { λ card back. ap is_on back };
 
-    fn read(&mut self, block: Block) -> ReadAnswer
+    fn read(&mut self, block: Block) -> Result<[u8; 16], Gone>
         ensures says { ReadSays (tear_blocks self.old) (is_on self.old.phase) (tear_blocks self.new) (is_on self.new.phase) block.0 result }
-        ensures steady { Stays self.old → (is_read result ≡ true) × Stays self.new }
+        ensures steady { Stays self.old → (is_ok result ≡ true) × Stays self.new }
         ensures same { self.new.image.ghost_name ≡ self.old.image.ghost_name }
         ensures plan { ReadByPlan self.old self.new block.0 result }
     {
         let answered = self.phase.answers();
         self.phase = self.plan.after_touch(self.phase);
         if answered {
-            ReadAnswer::Bytes(block_of(self.image, block))
+            Ok(block_of(self.image, block))
         } else {
-            ReadAnswer::Gone
+            Err(Gone)
         }
     }
 
-    fn write(&mut self, block: Block, bytes: &[u8; 16]) -> WriteAnswer
+    fn write(&mut self, block: Block, bytes: &[u8; 16]) -> Result<(), Gone>
         ensures says { WriteSays (tear_blocks self.old) (is_on self.old.phase) (tear_blocks self.new) (is_on self.new.phase) block.0 bytes.now result }
-        ensures steady { Stays self.old → (is_done result ≡ true) × Stays self.new }
+        ensures steady { Stays self.old → (is_ok result ≡ true) × Stays self.new }
         ensures same { self.new.image.ghost_name ≡ self.old.image.ghost_name }
         ensures plan { WriteByPlan self.old self.new block.0 bytes.now result }
     {
@@ -123,12 +123,12 @@ impl Card for TearCard<'_> {
         self.phase = self.plan.after_touch(phase);
         if phase.answers() {
             put_block(self.image, block, bytes);
-            return WriteAnswer::Done;
+            return Ok(());
         }
         if let Phase::Here(_) = phase {
             tear_block(self.image, block, bytes, self.plan.torn);
         }
-        WriteAnswer::Gone
+        Err(Gone)
     }
 
     fn lay(&mut self) -> Laid

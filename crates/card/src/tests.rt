@@ -1,6 +1,6 @@
 // One list of calls on both cards, with the tear card leaving at each count.
 use crate::image::ImageCard;
-use crate::interface::{Card, Laid, ReadAnswer, WriteAnswer};
+use crate::interface::{Card, Gone, Laid};
 use crate::tear::{Plan, TearCard, Torn};
 use layout::Block;
 
@@ -11,19 +11,19 @@ const OTHER: [u8; 16] = [9; 16];
 // A read as one letter: the old bytes, the new, others, or gone.
 fn read<C: Card>(card: &mut C) -> u8 {
     match card.read(Block(5)) {
-        ReadAnswer::Bytes(bytes) => match bytes[3] {
+        Ok(bytes) => match bytes[3] {
             0 => b'o',
             7 => b'n',
             _ => b'?',
         },
-        ReadAnswer::Gone => b'-',
+        Err(Gone) => b'-',
     }
 }
 
 fn write<C: Card>(card: &mut C) -> u8 {
     match card.write(Block(5), &NEW) {
-        WriteAnswer::Done => b'd',
-        WriteAnswer::Gone => b'-',
+        Ok(()) => b'd',
+        Err(Gone) => b'-',
     }
 }
 

@@ -1,21 +1,21 @@
 -- The directories that the check comes to lie on the card. Assumes nothing.
-use Rattle.std.proofs.Common.{◌≡◌, ℕ, ◌<◌, Bool, true, false, cond, not, ◌&&◌, ◌||◌, eqb, List, get_or, Some, None, Ok, Err, Option, sym, refl, ap, ◌∙◌, subst, ⊎_elim, arith}
+use Rattle.std.proofs.Common.{◌≡◌, ℕ, ◌<◌, Bool, true, false, cond, not, ◌&&◌, ◌||◌, ◌==◌, eqb, List, get_or, Some, None, Ok, Err, Option, sym, refl, ap, ◌∙◌, subst, ⊎_elim, arith}
 use Rattle.std.proofs.lemmas.Bool.Decides.{nat_tests}
 use Rattle.std.proofs.lemmas.Bool.{and_parts, or_cases, or_parts, both_ways, not-false, not_from_true, eqb-true, eqb-false, eq-eqb}
 use Rattle.layout.specs.Blocks.{rank_of, sector_of, position_of, trailer, first_of}
-use Rattle.layout.specs.Profiles.{within, nscp_sectors, services_sectors}
+use Rattle.layout.specs.Profiles.{mad_of, within, nscp_sectors, services_sectors}
 use Rattle.layout.specs.Refusals.{refuse}
 use Rattle.layout.specs.Runs.{on_card}
 use Rattle.layout.specs.declared.numbers.Block.{Block}
 use Rattle.layout.specs.declared.numbers.Sector.{Sector}
 use Rattle.layout.specs.declared.profiles.Profile.{Profile}
 use Rattle.layout.specs.declared.profiles.Profile.TheVariants.{A, B, C, D, E}
-use Rattle.layout.specs.declared.refusals.Reason.TheVariants.{NscpItem}
+use Rattle.layout.specs.declared.refusals.Reason.TheVariants.{NscpSector, NscpItem}
 use Rattle.layout.specs.declared.refusals.Refusal.{Refusal}
 use Rattle.layout.proofs.Below.{at}
 use Rattle.directory.specs.Entries.{item_at}
-use Rattle.directory.specs.Nscp.{nscp_sector_judged, names_sector, item_wrong, tag_is, wrong_as, wrong_item, nscp_judged, first_item_judged}
-use Rattle.directory.specs.Searches.{lowest_of}
+use Rattle.directory.specs.Nscp.{is_nscp, nscp_sector_at, nscp_sector_judged, names_sector, item_wrong, tag_is, wrong_as, wrong_item, nscp_judged, first_item_judged}
+use Rattle.directory.specs.Searches.{count_of, lowest_of}
 use Rattle.directory.specs.Services.{item_found, services_at, services_judged}
 use Rattle.directory.specs.declared.entries.Item.{Item}
 use Rattle.directory.proofs.Searching.{lowest_all, lowest_some}
@@ -56,12 +56,19 @@ cond_not true x y e is = let z : ◌≡◌ {A = ℕ} 0 1 = cc in absurd (omega a
 cond_not false x y e is = (refl, cc)
 
 -- the NSCP directory
+pub nscp_allowed : (p : Profile) (mad : List ℕ) (s : Sector) → nscp_sector_judged p mad ≡ Ok s → within (nscp_sectors p) s.0 ≡ true
+nscp_allowed p mad s e = by_count (count_of (is_nscp mad) (mad_of p).listed == 1) (lowest_of (is_nscp mad) (mad_of p).listed) e
+  where
+    by_place : (o : Option ℕ) → nscp_sector_at p o ≡ Ok s → within (nscp_sectors p) s.0 ≡ true
+    by_place None e = let z : ◌≡◌ {A = ℕ} 0 1 = cc in absurd (omega arith)
+    by_place (Some i) e = let k = cond_ok _ _ s _ e in subst (λ t. within (nscp_sectors p) t.0 ≡ true) k.1 k.0
+
+    by_count : (b : Bool) (o : Option ℕ) → cond b (nscp_sector_at p o) (refuse NscpSector 0) ≡ Ok s → within (nscp_sectors p) s.0 ≡ true
+    by_count true o e = by_place o e
+    by_count false o e = let z : ◌≡◌ {A = ℕ} 0 1 = cc in absurd (omega arith)
+
 pub nscp_on_card : (p : Profile) (mad : List ℕ) (s : Sector) → nscp_sector_judged p mad ≡ Ok s → (s.0 < 32) × (on_card (first_of s.0) 3 ≡ true)
-nscp_on_card p mad s e =
-    let k = cond_ok _ _ s _ e in
-    let found = ap (λ t. t.0) k.1 in
-    let small : s.0 < 32 = subst (λ n. n < 32) found (nscp_small p _ (and_parts _ _ k.0).1) in
-    (small, sector_on_card s.0 small)
+nscp_on_card p mad s e = let small = nscp_small p s.0 (nscp_allowed p mad s e) in (small, sector_on_card s.0 small)
 
 -- no item is wrong in a directory that was accepted
 items_right : (nscp : List ℕ) → nscp_judged nscp ≡ Ok tt → lowest_of (wrong_item nscp) 23 ≡ None

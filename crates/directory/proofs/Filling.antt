@@ -12,6 +12,7 @@ use Rattle.layout.specs.Refusals.{refusal, Answer}
 use Rattle.layout.specs.declared.refusals.Reason.TheVariants.{CardGone}
 use Rattle.layout.specs.declared.refusals.Refusal.{Refusal}
 use Rattle.card.specs.Blocks.{Blocks}
+use Rattle.card.specs.declared.interface.Card.{Ghosts as CardKind}
 use Rattle.directory.specs.Looks.{lost_at, unless_lost, Taken}
 use Rattle.directory.specs.Reads.{block_look, joined, Filled}
 
@@ -27,7 +28,9 @@ joined_append : (blocks : Blocks) (xs ys : List ℕ) → joined blocks (xs ++ ys
 joined_append blocks [] ys = refl
 joined_append blocks (x ∷ xs) ys = ap (λ t. blocks x ++ t) (joined_append blocks xs ys) ∙ sym (append_assoc (blocks x) (joined blocks xs) (joined blocks ys))
 
-module _ {C : Type 0} (blocks : C → Blocks) (present : C → Bool) (steady : C → Type 0) (full : (card : C) (b : ℕ) → length (blocks card b) ≡ 16) where
+module _ {C : Type 0} (kind : CardKind C) where
+  open kind use {blocks, present, steady, full}
+
   pub length_joined : (card : C) (bs : List ℕ) → length (joined (blocks card) bs) ≡ 16 * length bs
   length_joined card [] = refl
   length_joined card (b ∷ bs) = length-append (blocks card b) (joined (blocks card) bs) ∙ omega (arith, full card b, length_joined card bs)
@@ -50,7 +53,7 @@ module _ {C : Type 0} (blocks : C → Blocks) (present : C → Bool) (steady : C
     pub level : present later ≡ present card
     pub same : blocks later ≡ blocks card
 
-  pub one : (t : ℕ) (card later : C) (bytes : List ℕ) → Taken blocks present steady (block_look t) card later (Ok bytes) → One t card later bytes
+  pub one : (t : ℕ) (card later : C) (bytes : List ℕ) → Taken kind (block_look t) card later (Ok bytes) → One t card later bytes
   one t card later bytes w = at_stay w.looked.stay w.looked.off w.looked.answer w.looked.is
     where
       at_stay : (stay : ℕ) → (present card ≡ false → stay ≡ 0) → Ok bytes ≡ unless_lost (lost_at (block_look t (blocks card)) stay) (Ok (blocks card t)) → present later ≡ (present card && not (is_some (lost_at (block_look t (blocks card)) stay))) → One t card later bytes
@@ -66,7 +69,7 @@ module _ {C : Type 0} (blocks : C → Blocks) (present : C → Bool) (steady : C
     pub same : blocks later ≡ blocks card
     pub loose : steady card → ⊥
 
-  pub lost : (t : ℕ) (card later : C) (e : Refusal) → Taken blocks present steady (block_look t) card later (Err e) → Lost t card later e
+  pub lost : (t : ℕ) (card later : C) (e : Refusal) → Taken kind (block_look t) card later (Err e) → Lost t card later e
   lost t card later e w = at_stay w.looked.stay w.looked.answer w.looked.is
     where
       loose : steady card → ⊥
@@ -77,7 +80,7 @@ module _ {C : Type 0} (blocks : C → Blocks) (present : C → Bool) (steady : C
       at_stay (suc n) answer is = let z : ◌≡◌ {A = ℕ} 0 1 = cc in absurd (omega arith)
 
   module _ (touches : List ℕ) (i t : ℕ) (here : slice_get touches i ≡ Some t) where
-    pub progress_gone : (card later last : C) (before after : List ℕ) (e : Refusal) → Progress touches i card later before after → Taken blocks present steady (block_look t) later last (Err e) → Filled blocks present steady touches card last before after (Err e)
+    pub progress_gone : (card later last : C) (before after : List ℕ) (e : Refusal) → Progress touches i card later before after → Taken kind (block_look t) later last (Err e) → Filled kind touches card last before after (Err e)
     progress_gone card later last before after e p w =
         let q = lost t later last e w in
         record {
@@ -94,7 +97,7 @@ module _ {C : Type 0} (blocks : C → Blocks) (present : C → Bool) (steady : C
           front = p.front;
         }
 
-    pub progress_more : (card later last : C) (before after bytes : List ℕ) → i < length touches → 16 * length touches ≤ length before → Progress touches i card later before after → Taken blocks present steady (block_look t) later last (Ok bytes) → Progress touches (i + 1) card last before (put_mid (16 * i) (16 * i + 16 - 16 * i) after bytes)
+    pub progress_more : (card later last : C) (before after bytes : List ℕ) → i < length touches → 16 * length touches ≤ length before → Progress touches i card later before after → Taken kind (block_look t) later last (Ok bytes) → Progress touches (i + 1) card last before (put_mid (16 * i) (16 * i + 16 - 16 * i) after bytes)
     progress_more card later last before after bytes within room p w =
         let q = one t later last bytes w in
         let front = joined (blocks card) (take i touches) in
@@ -117,7 +120,7 @@ module _ {C : Type 0} (blocks : C → Blocks) (present : C → Bool) (steady : C
               ∙ ap (λ f. overlaid f before) (sym read);
         }
 
-  pub progress_done : (touches : List ℕ) (i : ℕ) (card later : C) (before after : List ℕ) → length touches ≤ i → Progress touches i card later before after → Filled blocks present steady touches card later before after (Ok tt)
+  pub progress_done : (touches : List ℕ) (i : ℕ) (card later : C) (before after : List ℕ) → length touches ≤ i → Progress touches i card later before after → Filled kind touches card later before after (Ok tt)
   progress_done touches i card later before after done p =
       let none = slice_get_past touches i done in
       record {
@@ -135,7 +138,7 @@ module _ {C : Type 0} (blocks : C → Blocks) (present : C → Bool) (steady : C
       }
 
   -- nothing was to be read
-  pub filled_none : (touches : List ℕ) (card : C) (buffer : List ℕ) → touches ≡ [] → Filled blocks present steady touches card card buffer buffer (Ok tt)
+  pub filled_none : (touches : List ℕ) (card : C) (buffer : List ℕ) → touches ≡ [] → Filled kind touches card card buffer buffer (Ok tt)
   filled_none touches card buffer none =
       progress_done touches 0 card card buffer buffer (omega (arith, ap length none)) (progress_none touches card buffer)
 
@@ -148,6 +151,6 @@ module _ {C : Type 0} (blocks : C → Blocks) (present : C → Bool) (steady : C
       (cases_lt stay (length touches))
 
   -- then the buffer's front holds all of the blocks
-  pub filled_whole : (touches : List ℕ) (card later : C) (before after : List ℕ) → Filled blocks present steady touches card later before after (Ok tt) → after ≡ overlaid (joined (blocks card) touches) before
+  pub filled_whole : (touches : List ℕ) (card later : C) (before after : List ℕ) → Filled kind touches card later before after (Ok tt) → after ≡ overlaid (joined (blocks card) touches) before
   filled_whole touches card later before after f =
       f.front ∙ ap (λ t. overlaid (joined (blocks card) t) before) (take_all _ touches (stayed touches _ f.taken.looked.answer))

@@ -7,6 +7,7 @@ use Rattle.layout.specs.declared.refusals.Reason.TheVariants.{CardGone}
 use Rattle.layout.specs.declared.refusals.Refusal.{Refusal}
 use Rattle.card.specs.Answers.{Read}
 use Rattle.card.specs.Blocks.{Blocks}
+use Rattle.card.specs.declared.interface.Card.{Ghosts as CardKind}
 use Rattle.directory.specs.Looks.{Look, judged, touches_after, then_look, lost_at, unless_lost, Looked, Taken}
 use Rattle.directory.specs.Reads.{block_look}
 
@@ -90,13 +91,15 @@ module _ {X Y : Type 0} (l : Look X) (next : X → Look Y) where
       }
 
 -- nothing was read of a card of any kind
-pub taken_none : {C X : Type 0} (blocks : C → Blocks) (present : C → Bool) (steady : C → Type 0) (r : Answer X) (card : C) → Taken blocks present steady (λ _. judged r) card card r
-taken_none blocks present steady r card = record { looked = looked_none r (blocks card) (present card); firm = λ s. (refl, s) }
+pub taken_none : {C X : Type 0} (kind : CardKind C) (r : Answer X) (card : C) → Taken kind (λ _. judged r) card card r
+taken_none kind r card = record { looked = looked_none r (kind.blocks card) (kind.present card); firm = λ s. (refl, s) }
 
 -- the same of looks at a card of any kind
-module _ {C X Y : Type 0} (blocks : C → Blocks) (present : C → Bool) (steady : C → Type 0) (l : Blocks → Look X) where
+module _ {C X Y : Type 0} (kind : CardKind C) (l : Blocks → Look X) where
+  open kind use {blocks, present}
+
   -- a judgement of what a look has shown
-  pub taken_judge : (judgement : Blocks → X → Answer Y) {card later : C} {r : Answer X} {s : Answer Y} (x : X) → Taken blocks present steady l card later r → r ≡ Ok x → s ≡ judgement (blocks card) x → Taken blocks present steady (λ b. then_look (l b) (λ y. judged (judgement b y))) card later s
+  pub taken_judge : (judgement : Blocks → X → Answer Y) {card later : C} {r : Answer X} {s : Answer Y} (x : X) → Taken kind l card later r → r ≡ Ok x → s ≡ judgement (blocks card) x → Taken kind (λ b. then_look (l b) (λ y. judged (judgement b y))) card later s
   taken_judge judgement {card} {later} {r} {s} x w is e =
       let none = looked_none s (blocks later) (present later) in
       let level : judged s ≡ judged (judgement (blocks card) x) = ap judged e in
@@ -108,7 +111,7 @@ module _ {C X Y : Type 0} (blocks : C → Blocks) (present : C → Bool) (steady
       }
 
   module _ (next : Blocks → X → Look Y) where
-    pub taken_stop : {card later : C} {r : Answer X} (e : Refusal) → Taken blocks present steady l card later r → r ≡ Err e → Taken blocks present steady (λ b. then_look (l b) (next b)) card later (Err e)
+    pub taken_stop : {card later : C} {r : Answer X} (e : Refusal) → Taken kind l card later r → r ≡ Err e → Taken kind (λ b. then_look (l b) (next b)) card later (Err e)
     taken_stop {card} e w is = record {
       looked = looked_stop (l (blocks card)) (next (blocks card)) w.looked is;
       firm = λ s.
@@ -116,7 +119,7 @@ module _ {C X Y : Type 0} (blocks : C → Blocks) (present : C → Bool) (steady
           (ap (λ a. then a (λ x. (next (blocks card) x).answer)) (sym is ∙ p.0), p.1);
     }
 
-    pub taken_then : {card later last : C} {r : Answer X} {s : Answer Y} (x : X) → Taken blocks present steady l card later r → r ≡ Ok x → Taken blocks present steady (λ b. next b x) later last s → Taken blocks present steady (λ b. then_look (l b) (next b)) card last s
+    pub taken_then : {card later last : C} {r : Answer X} {s : Answer Y} (x : X) → Taken kind l card later r → r ≡ Ok x → Taken kind (λ b. next b x) later last s → Taken kind (λ b. then_look (l b) (next b)) card last s
     taken_then {card} {later} {last} {r} {s} x w is v =
         let same : blocks later ≡ blocks card = w.looked.same in
         record {
@@ -128,18 +131,20 @@ module _ {C X Y : Type 0} (blocks : C → Blocks) (present : C → Bool) (steady
         }
 
 -- for how many reads the card stayed, over two looks
-module _ {C X Y : Type 0} (blocks : C → Blocks) (present : C → Bool) (steady : C → Type 0) (l : Blocks → Look X) where
-  pub stay_judge : (judgement : Blocks → X → Answer Y) {card later : C} {r : Answer X} {s : Answer Y} (x : X) (w : Taken blocks present steady l card later r) (is : r ≡ Ok x) (e : s ≡ judgement (blocks card) x)
-      → (taken_judge blocks present steady l judgement x w is e).looked.stay ≡ length (l (blocks card)).touches + 0
+module _ {C X Y : Type 0} (kind : CardKind C) (l : Blocks → Look X) where
+  open kind use {blocks, present}
+
+  pub stay_judge : (judgement : Blocks → X → Answer Y) {card later : C} {r : Answer X} {s : Answer Y} (x : X) (w : Taken kind l card later r) (is : r ≡ Ok x) (e : s ≡ judgement (blocks card) x)
+      → (taken_judge kind l judgement x w is e).looked.stay ≡ length (l (blocks card)).touches + 0
   unfolding taken_judge looked_then looked_none
   stay_judge judgement x w is e = refl
 
   module _ (next : Blocks → X → Look Y) where
-    pub stay_stop : {card later : C} {r : Answer X} (e : Refusal) (w : Taken blocks present steady l card later r) (is : r ≡ Err e) → (taken_stop blocks present steady l next e w is).looked.stay ≡ w.looked.stay
+    pub stay_stop : {card later : C} {r : Answer X} (e : Refusal) (w : Taken kind l card later r) (is : r ≡ Err e) → (taken_stop kind l next e w is).looked.stay ≡ w.looked.stay
     unfolding taken_stop looked_stop
     stay_stop e w is = refl
 
-    pub stay_then : {card later last : C} {r : Answer X} {s : Answer Y} (x : X) (w : Taken blocks present steady l card later r) (is : r ≡ Ok x) (v : Taken blocks present steady (λ b. next b x) later last s)
-        → (taken_then blocks present steady l next x w is v).looked.stay ≡ length (l (blocks card)).touches + v.looked.stay
+    pub stay_then : {card later last : C} {r : Answer X} {s : Answer Y} (x : X) (w : Taken kind l card later r) (is : r ≡ Ok x) (v : Taken kind (λ b. next b x) later last s)
+        → (taken_then kind l next x w is v).looked.stay ≡ length (l (blocks card)).touches + v.looked.stay
     unfolding taken_then looked_then
     stay_then x w is v = refl

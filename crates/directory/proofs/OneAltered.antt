@@ -27,7 +27,7 @@ use Rattle.directory.specs.Slots.{slots_judged}
 use Rattle.directory.specs.declared.accepted.Directory.{Directory}
 use Rattle.directory.specs.declared.accepted.Nscp.{Nscp}
 use Rattle.directory.proofs.Altered.{Absent, Once, agree_absent, put_away, altered_unsealed, nth_counting, nth_counting_lt, once_counting, absent_counted}
-use Rattle.directory.proofs.DirectoryPlaces.{cond_ok, nscp_small, services_small, services_place}
+use Rattle.directory.proofs.DirectoryPlaces.{cond_ok, nscp_small, nscp_allowed, services_small, services_place}
 use Rattle.directory.proofs.Locality.{Local, local_mad, local_nscp}
 
 -- the parts of an answer that was accepted
@@ -102,8 +102,8 @@ record Shown (p : Profile) (blocks : Blocks) (d : Directory) : Type 0 where
   place : Block
   place_ok : services_judged p mad nscp.sector.0 nscp.bytes ≡ Ok place
   services_shut : sealed (joined blocks (run_touches place.0 3)) ≡ true
-  d_sector : d.nscp_sector ≡ sector
-  d_place : d.services_block ≡ place
+  d_sector : d.nscp.sector ≡ sector
+  d_place : d.services.block ≡ place
 
 shown : (p : Profile) (blocks : Blocks) (d : Directory) → verdict p blocks ≡ Ok d → Shown p blocks d
 unfolding check_look
@@ -138,8 +138,8 @@ shown p blocks d ok =
       place = place;
       place_ok = c.1;
       services_shut = (cond_ok _ _ f.0 _ f.1).0;
-      d_sector = sym (ap (λ k. k.nscp_sector) whole) ∙ sym (ap (λ k. k.sector) made);
-      d_place = sym (ap (λ k. k.services_block) whole);
+      d_sector = sym (ap (λ k. k.nscp.sector) whole) ∙ sym (ap (λ k. k.sector) made);
+      d_place = sym (ap (λ k. k.services.block) whole);
     }
 
 -- a card that agrees in the trailer and in the application directory's blocks
@@ -160,9 +160,6 @@ agree_nscp p mad s blocks other is rest = subst (λ r. Agree (touches_after r (n
     after : (a : Answer (List ℕ)) → Agree ((run_touches (first_of s.0) 3 ++ []) ++ touches_after a (λ bytes. record { touches = []; answer = nscp_accepted s bytes })) blocks other
     after (Ok bytes) = subst (λ ts. Agree ts blocks other) (sym (append-nil _ ∙ append-nil _)) rest
     after (Err e) = subst (λ ts. Agree ts blocks other) (sym (append-nil _ ∙ append-nil _)) rest
-
-nscp_allowed : (p : Profile) (mad : List ℕ) (s : Sector) → nscp_sector_judged p mad ≡ Ok s → within (nscp_sectors p) s.0 ≡ true
-nscp_allowed p mad s e = let c = cond_ok _ _ s _ e in subst (λ t. within (nscp_sectors p) t.0 ≡ true) c.1 (and_parts _ _ c.0).1
 
 module _ (p : Profile) (blocks : Blocks) (d : Directory) (at : ℕ) (new : List ℕ) (each : (b : ℕ) → Bytes (blocks b)) (fits : Bytes new) (k : Shown p blocks d) (differ : DifferInOne (blocks at) new) where
   after : Blocks

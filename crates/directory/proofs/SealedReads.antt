@@ -7,6 +7,7 @@ use Rattle.layout.specs.Runs.{on_card}
 use Rattle.layout.specs.declared.refusals.Reason.{Reason}
 use Rattle.layout.specs.declared.refusals.Refusal.{Refusal}
 use Rattle.card.specs.Blocks.{Blocks}
+use Rattle.card.specs.declared.interface.Card.{Ghosts as CardKind}
 use Rattle.directory.specs.Judged.{directory_bytes, padded, seal_judged, sealed_look}
 use Rattle.directory.specs.Looks.{Taken}
 use Rattle.directory.specs.Reads.{run_touches, run_reads, touch_look, joined, Filled}
@@ -18,17 +19,19 @@ use Rattle.directory.proofs.RunTouches.{length_touches}
 pub whole_run : (start n room : ℕ) → on_card start n ≡ true → 16 * n ≤ room → run_reads start n room ≡ run_touches start n
 whole_run start n room on fits = cond-true _ _ _ (and_from (on_card start n) (leb (16 * n) room) on (le-leb _ _ fits))
 
-module _ {C : Type 0} (blocks : C → Blocks) (present : C → Bool) (steady : C → Type 0) (full : (card : C) (b : ℕ) → length (blocks card b) ≡ 16)
+module _ {C : Type 0} (kind : CardKind C)
     (start n : ℕ) (on : on_card start n ≡ true) (few : n ≤ 3) (card later : C) (after : List ℕ)
-    (filled : Filled blocks present steady (run_reads start n 48) card later (replicate 48 0) after (Ok tt)) where
+    (filled : Filled kind (run_reads start n 48) card later (replicate 48 0) after (Ok tt)) where
+  open kind use {blocks}
+
   whole : run_reads start n 48 ≡ run_touches start n
   whole = whole_run start n 48 on (omega arith)
 
   pub bytes_are : after ≡ padded (directory_bytes start n (blocks card))
-  bytes_are = filled_whole blocks present steady full (run_reads start n 48) card later (replicate 48 0) after filled ∙ ap (λ t. padded (joined (blocks card) t)) whole
+  bytes_are = filled_whole kind (run_reads start n 48) card later (replicate 48 0) after filled ∙ ap (λ t. padded (joined (blocks card) t)) whole
 
   long : length (directory_bytes start n (blocks card)) ≡ 16 * n
-  long = length_joined blocks present steady full card (run_touches start n) ∙ ap (λ k. 16 * k) (length_touches start n)
+  long = length_joined kind card (run_touches start n) ∙ ap (λ k. 16 * k) (length_touches start n)
 
   -- the part of the buffer that was filled
   pub part_are : take (16 * n - 0) (drop 0 after) ≡ directory_bytes start n (blocks card)
@@ -37,13 +40,13 @@ module _ {C : Type 0} (blocks : C → Blocks) (present : C → Bool) (steady : C
       let same : 16 * n - 0 ≡ length d = omega (arith, long) in
       ap (λ k. take k (drop 0 after)) same ∙ ap (λ a. take (length d) a) bytes_are ∙ take-append_seam d _
 
-  judged_as : (why : Reason) {s : Answer (List ℕ)} → s ≡ seal_judged why start (directory_bytes start n (blocks card)) → Taken blocks present steady (sealed_look why start n) card later s
+  judged_as : (why : Reason) {s : Answer (List ℕ)} → s ≡ seal_judged why start (directory_bytes start n (blocks card)) → Taken kind (sealed_look why start n) card later s
   judged_as why e =
-      taken_judge blocks present steady (touch_look (run_touches start n)) (λ b _. seal_judged why start (directory_bytes start n b)) tt
-      (subst (λ t. Taken blocks present steady (touch_look t) card later (Ok tt)) whole filled.taken) refl e
+      taken_judge kind (touch_look (run_touches start n)) (λ b _. seal_judged why start (directory_bytes start n b)) tt
+      (subst (λ t. Taken kind (touch_look t) card later (Ok tt)) whole filled.taken) refl e
 
-  pub unsealed : (why : Reason) (e : Refusal) → e ≡ refusal why start → sealed (take (16 * n - 0) (drop 0 after)) ≡ false → Taken blocks present steady (sealed_look why start n) card later (Err e)
+  pub unsealed : (why : Reason) (e : Refusal) → e ≡ refusal why start → sealed (take (16 * n - 0) (drop 0 after)) ≡ false → Taken kind (sealed_look why start n) card later (Err e)
   unsealed why e is broken = judged_as why (ap Err is ∙ sym (cond-false _ _ _ (ap sealed (sym part_are) ∙ broken)))
 
-  pub is_sealed_lem : (why : Reason) → sealed (take (16 * n - 0) (drop 0 after)) ≡ true → Taken blocks present steady (sealed_look why start n) card later (Ok after)
+  pub is_sealed_lem : (why : Reason) → sealed (take (16 * n - 0) (drop 0 after)) ≡ true → Taken kind (sealed_look why start n) card later (Ok after)
   is_sealed_lem why shut = judged_as why (ap Ok bytes_are ∙ sym (cond-true _ _ _ (ap sealed (sym part_are) ∙ shut)))

@@ -1,91 +1,80 @@
 -- Steps of a search. Assumes nothing.
-use Rattle.std.proofs.Common.{◌≡◌, ℕ, zero, suc, ◌+◌, ◌<◌, Bool, true, false, cond, ◌||◌, Some, None, Option, sym, refl, ap, ◌∙◌, ⊎_elim, not-suc-le-zero, add-one, arith}
-use Rattle.std.proofs.lemmas.Bool.{cases_eq, or_right, or_left}
-use Rattle.directory.specs.Searches.{any_of, count_of, last_of, or_else, lowest_of}
+use Rattle.std.proofs.Common.{◌≡◌, ℕ, zero, suc, ◌+◌, ◌-◌, ◌<◌, ◌≤◌, Bool, true, false, cond, ◌||◌, List, [], ◌∷◌, ◌++◌, length, ◌≢◌, Some, None, Option, sym, refl, ap, ◌∙◌, ⊎_elim, add-zero, zero-add, suc-add, add-suc, add-one, arith}
+use Rattle.std.proofs.lemmas.Bool.{cases_eq}
+use Rattle.std.proofs.lemmas.List.Folds.{list_any-append, list_any_at, find-append}
+use Rattle.std.proofs.lemmas.List.FromFn.{length-range_with_len, get_or-range_with_len}
+use Rattle.std.specs.List.{range_with_len, list_any, find}
+use Rattle.std.specs.Option.{option_or}
+use Rattle.directory.specs.Searches.{any_of, lowest_of}
 
-or_none : (o : Option ℕ) (b : Bool) (n : ℕ) → or_else o (cond b (Some n) None) ≡ None → (o ≡ None) × (b ≡ false)
-or_none (Some i) b n e = let z : ◌≡◌ {A = ℕ} 0 1 = cc in absurd (omega arith)
-or_none None true n e = let z : ◌≡◌ {A = ℕ} 0 1 = cc in absurd (omega arith)
-or_none None false n e = (refl, refl)
+range_split : (a m n : ℕ) → range_with_len a (m + n) ≡ range_with_len a m ++ range_with_len (a + m) n
+range_split a zero n = ap (range_with_len a) (zero-add n) ∙ ap (λ k. range_with_len k n) (sym (add-zero a))
+range_split a (suc m) n =
+    let next : a + 1 + m ≡ a + suc m = omega arith in
+    ap (range_with_len a) (suc-add m n) ∙ ap (λ xs. a ∷ xs) (range_split (a + 1) m n ∙ ap (λ k. range_with_len (a + 1) m ++ range_with_len k n) next)
 
 module _ (f : ℕ → Bool) where
   pub any_none : any_of f 0 ≡ false
   unfolding any_of
   any_none = refl
 
-  pub any_more : (n : ℕ) → any_of f (n + 1) ≡ (any_of f n || f n)
-  unfolding any_of
-  any_more n = rw add-one refl
-
   -- no more after a place that does not pass
   pub any_past : (n : ℕ) → any_of f n ≡ false → f n ≡ false → any_of f (n + 1) ≡ false
-  any_past n none no_here = any_more n ∙ ap (λ b. b || f n) none ∙ no_here
+  unfolding any_of
+  any_past n none no_here =
+      let last : list_any f (range_with_len (0 + n) 1) ≡ false = ap (λ k. f k || false) (zero-add n) ∙ ap (λ b. b || false) no_here in
+      ap (list_any f) (range_split 0 n 1) ∙ list_any-append f _ _ ∙ ap (λ b. b || list_any f (range_with_len (0 + n) 1)) none ∙ last
 
   -- a place that passes
   pub any_here : (n i : ℕ) → i < n → f i ≡ true → any_of f n ≡ true
   unfolding any_of
-  any_here zero i h t = absurd (not-suc-le-zero h)
-  any_here (suc n) i h t =
-      ⊎_elim
-      (λ e. or_right (any_of f n) (f n) (ap f (sym e) ∙ t))
-      (λ ne. or_left (any_of f n) (f n) (any_here n i (omega arith) t))
-      (cases_eq i n)
-
-  pub count_none : count_of f 0 ≡ 0
-  unfolding count_of
-  count_none = refl
-
-  pub count_more : (n : ℕ) → count_of f (n + 1) ≡ count_of f n + cond (f n) 1 0
-  unfolding count_of
-  count_more n = rw add-one refl
-
-  pub last_none : last_of f 0 ≡ 0
-  unfolding last_of
-  last_none = refl
-
-  pub last_more : (n : ℕ) → last_of f (n + 1) ≡ cond (f n) n (last_of f n)
-  unfolding last_of
-  last_more n = rw add-one refl
+  any_here n i h t =
+      list_any_at f (range_with_len 0 n) i 0 (omega (arith, length-range_with_len 0 n)) (ap f (get_or-range_with_len 0 n i 0 h ∙ zero-add i) ∙ t)
 
   pub lowest_none : lowest_of f 0 ≡ None
   unfolding lowest_of
   lowest_none = refl
 
+  -- a search that has found nothing in m places goes on behind them
+  after : (m n : ℕ) → find f (range_with_len 0 m) ≡ None → find f (range_with_len 0 (m + n)) ≡ find f (range_with_len m n)
+  after m n none =
+      ap (find f) (range_split 0 m n) ∙ find-append f _ _ ∙ ap (λ o. option_or o (find f (range_with_len (0 + m) n))) none
+      ∙ ap (λ k. find f (range_with_len k n)) (zero-add m)
+
   pub lowest_past : (n : ℕ) → lowest_of f n ≡ None → f n ≡ false → lowest_of f (n + 1) ≡ None
   unfolding lowest_of
-  lowest_past n none no_here = rw add-one (simp (none, no_here) refl)
+  lowest_past n none no_here = after n 1 none ∙ ap (λ b. cond b (Some n) None) no_here
 
   -- the first that passes is found, however far the search goes on
   pub lowest_here : (n i : ℕ) → i < n → lowest_of f i ≡ None → f i ≡ true → lowest_of f n ≡ Some i
   unfolding lowest_of
-  lowest_here zero i h none t = absurd (not-suc-le-zero h)
-  lowest_here (suc n) i h none t =
-      ⊎_elim
-      (λ e. let here : f n ≡ true = ap f (sym e) ∙ t in let before : lowest_of f n ≡ None = ap (lowest_of f) (sym e) ∙ none in simp (before, here) (ap Some (sym e)))
-      (λ ne. let found = lowest_here n i (omega arith) none t in simp found refl)
-      (cases_eq i n)
+  lowest_here n i h none t =
+      let long : n ≡ i + suc (n - i - 1) = omega arith in
+      ap (λ k. find f (range_with_len 0 k)) long ∙ after i (suc (n - i - 1)) none
+      ∙ ap (λ b. cond b (Some i) (find f (range_with_len (i + 1) (n - i - 1)))) t
+
+  found_none : (a n : ℕ) → find f (range_with_len a n) ≡ None → (i : ℕ) → a ≤ i → i < a + n → f i ≡ false
+  found_none a zero none i low high = absurd (omega arith)
+  found_none a (suc n) none i low high = passed (λ e ne. found_none (a + 1) n e i (omega arith) (omega arith)) (f a) refl none
+    where
+      passed : (find f (range_with_len (a + 1) n) ≡ None → (i ≢ a) → f i ≡ false) → (b : Bool) → f a ≡ b → cond b (Some a) (find f (range_with_len (a + 1) n)) ≡ None → f i ≡ false
+      passed later true is e = let z : ◌≡◌ {A = ℕ} 0 1 = cc in absurd (omega arith)
+      passed later false is e = ⊎_elim (λ same. ap f same ∙ is) (later e) (cases_eq i a)
+
+  found_some : (a n i : ℕ) → find f (range_with_len a n) ≡ Some i → (i < a + n) × (f i ≡ true)
+  found_some a zero i e = let z : ◌≡◌ {A = ℕ} 0 1 = cc in absurd (omega arith)
+  found_some a (suc n) i e = passed (λ e. let p = found_some (a + 1) n i e in (omega (arith, p.0), p.1)) (f a) refl e
+    where
+      passed : (find f (range_with_len (a + 1) n) ≡ Some i → (i < a + suc n) × (f i ≡ true)) → (b : Bool) → f a ≡ b → cond b (Some a) (find f (range_with_len (a + 1) n)) ≡ Some i → (i < a + suc n) × (f i ≡ true)
+      passed later true is e = let same : a ≡ i = cc in (omega arith, ap f (sym same) ∙ is)
+      passed later false is e = later e
 
   -- what a search that found nothing has passed over
   pub lowest_all : (n : ℕ) → lowest_of f n ≡ None → (i : ℕ) → i < n → f i ≡ false
   unfolding lowest_of
-  lowest_all zero none i h = absurd (not-suc-le-zero h)
-  lowest_all (suc n) none i h =
-      let p = or_none (lowest_of f n) (f n) n none in
-      ⊎_elim (λ e. ap f e ∙ p.1) (λ ne. lowest_all n p.0 i (omega arith)) (cases_eq i n)
+  lowest_all n none i h = found_none 0 n none i (omega arith) (omega arith)
 
   -- what a search found is a place that passes
   pub lowest_some : (n i : ℕ) → lowest_of f n ≡ Some i → (i < n) × (f i ≡ true)
   unfolding lowest_of
-  lowest_some zero i e = let z : ◌≡◌ {A = ℕ} 0 1 = cc in absurd (omega arith)
-  lowest_some (suc n) i e = some_of (λ j. lowest_some n j) (lowest_of f n) refl e
-    where
-      some_of : ((j : ℕ) → lowest_of f n ≡ Some j → (j < n) × (f j ≡ true)) → (o : Option ℕ) → lowest_of f n ≡ o → or_else o (cond (f n) (Some n) None) ≡ Some i → (i < suc n) × (f i ≡ true)
-      some_of back (Some j) is found =
-          let same : j ≡ i = cc in
-          let p = back j is in
-          (omega (arith, p.0), ap f (sym same) ∙ p.1)
-      some_of back None is found = here (f n) refl found
-        where
-          here : (b : Bool) → f n ≡ b → cond b (Some n) None ≡ Some i → (i < suc n) × (f i ≡ true)
-          here true is found = let same : n ≡ i = cc in (omega arith, ap f (sym same) ∙ is)
-          here false is found = let z : ◌≡◌ {A = ℕ} 0 1 = cc in absurd (omega arith)
+  lowest_some n i e = let p = found_some 0 n i e in (omega (arith, p.0), p.1)

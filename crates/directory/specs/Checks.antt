@@ -30,12 +30,9 @@ nscp_look p mad blocks = then_look (judged (nscp_sector_judged p mad)) (nscp_loo
 -- the directories of a card
 abbrev pub together : Profile → List ℕ → Nscp → Block → List ℕ → Directory
 together p mad nscp at services = record {
-  profile = p;
-  mad = mad;
-  nscp_sector = nscp.sector;
-  nscp = nscp.bytes;
-  services_block = at;
-  services = services;
+  applications = record { profile = p; bytes = mad };
+  nscp = nscp;
+  services = record { block = at; bytes = services };
 }
 
 -- the slots are judged last

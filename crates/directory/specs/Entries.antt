@@ -1,7 +1,7 @@
 -- Entries of a directory: what stands at each place, and what an unused place is. Assumes nothing.
 use Rattle.std.specs.Prelude.{ℕ, ◌+◌, ◌*◌, ◌/◌, ◌%◌, Bool, true, cond, ◌&&◌, List, [], ◌∷◌, replicate, Some, None, Option, ◌==◌, nat_le, slice_index}
 use Rattle.std.proofs.Math.Seq.{paste}
-use Rattle.std.specs.List.{between}
+use Rattle.std.specs.List.{between, list_all}
 use Rattle.layout.specs.Blocks.{to_block}
 use Rattle.directory.specs.declared.entries.Aid.{Aid}
 use Rattle.directory.specs.declared.entries.Item.{Item}
@@ -9,8 +9,7 @@ use Rattle.directory.specs.declared.entries.Slot.{Slot}
 
 -- every byte is 00
 abbrev pub unused : List ℕ → Bool
-unused [] = true
-unused (x ∷ xs) = x == 0 && unused xs
+unused = list_all (λ x. x == 0)
 
 -- an entry's bytes hold a value, or are unused and hold none
 abbrev pub parsed : {E : Type 0} → (List ℕ → E) → List ℕ → Option E

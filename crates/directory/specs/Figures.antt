@@ -22,12 +22,9 @@ for_services (suc n) = 0x12 ∷ 0x40 ∷ for_services n
 -- a card whose first listed sector is the NSCP's, whose only item puts the services directory into the second, and whose other listed sectors are for services
 abbrev pub only_services : Profile → ℕ → ℕ → Directory
 only_services p first at = record {
-  profile = p;
-  mad = 0 ∷ 0 ∷ 0x11 ∷ 0x40 ∷ for_services 22;
-  nscp_sector = to_sector first;
-  nscp = 0 ∷ 0 ∷ 0xCF ∷ at ∷ replicate 44 0;
-  services_block = to_block at;
-  services = replicate 48 0;
+  applications = record { profile = p; bytes = 0 ∷ 0 ∷ 0x11 ∷ 0x40 ∷ for_services 22 };
+  nscp = record { sector = to_sector first; bytes = 0 ∷ 0 ∷ 0xCF ∷ at ∷ replicate 44 0 };
+  services = record { block = to_block at; bytes = replicate 48 0 };
 }
 
 abbrev service_blocks : Directory → ℕ
@@ -57,6 +54,6 @@ pub record Known : Type 0 where
   pub blocks_d : service_blocks (only_services D 17 72) ≡ 159
   pub blocks_e : service_blocks (only_services E 1 8) ≡ 99
   -- the sample card is accepted: its first slot, its free blocks, and what the check reads of it
-  pub slot : option_map (λ d. slot_at d.services 0) (result_ok (verdict A sample_card)) ≡ Some (Some sample_slot)
+  pub slot : option_map (λ d. slot_at d.services.bytes 0) (result_ok (verdict A sample_card)) ≡ Some (Some sample_slot)
   pub free : option_map free_blocks (result_ok (verdict A sample_card)) ≡ Some 38
   pub order : reads A sample_card ≡ 3 ∷ 1 ∷ 2 ∷ 4 ∷ 5 ∷ 6 ∷ 8 ∷ 9 ∷ 10 ∷ []

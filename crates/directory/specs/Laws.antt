@@ -30,8 +30,8 @@ pub record BlockOf (start n at : ℕ) : Type 0 where
 -- the verdict on a card where one byte of a directory was altered: that directory's checksum
 pub record Altered (p : Profile) (d : Directory) (at : ℕ) (after : Blocks) : Type 0 where
   pub mad : BlockOf (mad_of p).run.start.0 (mad_of p).run.length at → verdict p after ≡ refuse MadChecksum (mad_of p).run.start.0
-  pub nscp : BlockOf (first_of d.nscp_sector.0) 3 at → verdict p after ≡ refuse NscpChecksum (first_of d.nscp_sector.0)
-  pub services : BlockOf d.services_block.0 3 at → verdict p after ≡ refuse ServicesChecksum d.services_block.0
+  pub nscp : BlockOf (first_of d.nscp.sector.0) 3 at → verdict p after ≡ refuse NscpChecksum (first_of d.nscp.sector.0)
+  pub services : BlockOf d.services.block.0 3 at → verdict p after ≡ refuse ServicesChecksum d.services.block.0
 
 -- one altered byte of an accepted directory, its checksum included, meets its checksum refusal
 abbrev pub OneAlteredByte : Profile → Type 0

@@ -4,6 +4,7 @@ use Rattle.std.specs.List.{slice_get}
 use Rattle.layout.specs.Refusals.{refuse, Answer, then}
 use Rattle.layout.specs.declared.refusals.Reason.TheVariants.{CardGone}
 use Rattle.card.specs.Blocks.{Blocks}
+use Rattle.card.specs.declared.interface.Card.{Ghosts as CardKind}
 
 -- a look at a card: the blocks to be read, in order, and what they say
 pub record Look (X : Type 0) : Type 0 where
@@ -45,6 +46,6 @@ pub record Looked {X : Type 0} (l : Look X) (before : Blocks) (on : Bool) (after
   pub is : still ≡ (on && not (is_some (lost_at l stay)))
 
 -- a look was taken at a card of any kind, by what that kind says of its cards; of a steady card no read was lost
-pub record Taken {C X : Type 0} (blocks : C → Blocks) (present : C → Bool) (steady : C → Type 0) (l : Blocks → Look X) (card later : C) (r : Answer X) : Type 0 where
-  pub looked : Looked (l (blocks card)) (blocks card) (present card) (blocks later) (present later) r
-  pub firm : steady card → (r ≡ (l (blocks card)).answer) × steady later
+pub record Taken {C X : Type 0} (kind : CardKind C) (l : Blocks → Look X) (card later : C) (r : Answer X) : Type 0 where
+  pub looked : Looked (l (kind.blocks card)) (kind.blocks card) (kind.present card) (kind.blocks later) (kind.present later) r
+  pub firm : kind.steady card → (r ≡ (l (kind.blocks card)).answer) × kind.steady later

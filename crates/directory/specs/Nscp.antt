@@ -7,7 +7,7 @@ use Rattle.layout.specs.declared.numbers.Sector.{Sector}
 use Rattle.layout.specs.declared.profiles.Profile.{Profile}
 use Rattle.layout.specs.declared.refusals.Reason.TheVariants.{NscpSector, NscpItem}
 use Rattle.directory.specs.Entries.{aid_at, item_at}
-use Rattle.directory.specs.Searches.{any_of, count_of, last_of, lowest_of}
+use Rattle.directory.specs.Searches.{any_of, count_of, lowest_of}
 use Rattle.directory.specs.declared.entries.Aid.{Aid}
 use Rattle.directory.specs.declared.entries.Item.{Item}
 
@@ -20,12 +20,16 @@ aid_is aid (Some a) = a.0 == aid
 abbrev pub is_nscp : List ℕ → ℕ → Bool
 is_nscp mad i = aid_is 0x4011 (aid_at mad i)
 
+-- the listed sector at a place, if the NSCP directory may stand there
+abbrev pub nscp_sector_at : Profile → Option ℕ → Answer Sector
+nscp_sector_at p None = refuse NscpSector 0
+nscp_sector_at p (Some i) =
+    cond (within (nscp_sectors p) ((mad_of p).first_listed.0 + i)) (Ok (to_sector ((mad_of p).first_listed.0 + i))) (refuse NscpSector 0)
+
 -- exactly one listed sector is the NSCP's, and it may stand there
 abbrev pub nscp_sector_judged : Profile → List ℕ → Answer Sector
 nscp_sector_judged p mad =
-    cond (count_of (is_nscp mad) (mad_of p).listed == 1 && within (nscp_sectors p) ((mad_of p).first_listed.0 + last_of (is_nscp mad) (mad_of p).listed))
-    (Ok (to_sector ((mad_of p).first_listed.0 + last_of (is_nscp mad) (mad_of p).listed)))
-    (refuse NscpSector 0)
+    cond (count_of (is_nscp mad) (mad_of p).listed == 1) (nscp_sector_at p (lowest_of (is_nscp mad) (mad_of p).listed)) (refuse NscpSector 0)
 
 -- tags that name one block
 abbrev pub names_block : ℕ → Bool

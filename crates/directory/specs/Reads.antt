@@ -6,6 +6,7 @@ use Rattle.layout.specs.Buffers.{overlaid}
 use Rattle.layout.specs.Refusals.{Answer}
 use Rattle.layout.specs.Runs.{run_block, on_card}
 use Rattle.card.specs.Blocks.{Blocks}
+use Rattle.card.specs.declared.interface.Card.{Ghosts as CardKind}
 use Rattle.directory.specs.Looks.{Look, Taken}
 
 -- one block
@@ -30,6 +31,6 @@ joined blocks [] = []
 joined blocks (b ∷ bs) = blocks b ++ joined blocks bs
 
 -- blocks were read into a buffer: its front holds those that the card stayed for
-pub record Filled {C : Type 0} (blocks : C → Blocks) (present : C → Bool) (steady : C → Type 0) (touches : List ℕ) (card later : C) (before after : List ℕ) (r : Answer (Unit {0})) : Type 0 where
-  pub taken : Taken blocks present steady (touch_look touches) card later r
-  pub front : after ≡ overlaid (joined (blocks card) (take taken.looked.stay touches)) before
+pub record Filled {C : Type 0} (kind : CardKind C) (touches : List ℕ) (card later : C) (before after : List ℕ) (r : Answer (Unit {0})) : Type 0 where
+  pub taken : Taken kind (touch_look touches) card later r
+  pub front : after ≡ overlaid (joined (kind.blocks card) (take taken.looked.stay touches)) before

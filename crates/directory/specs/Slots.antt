@@ -21,11 +21,11 @@ names b (Some it) = cond (names_sector it.tag) (sector_of it.block.0 == sector_o
 -- a sector for services: of the profile, not the NSCP's, and listed for services or not at all. No profile has the sector of its application directory.
 abbrev pub service_sector : Directory → ℕ → Bool
 service_sector d s =
-    within (sectors_of d.profile) s && not (s == d.nscp_sector.0) && not (listed_otherwise d.profile d.mad s)
+    within (sectors_of d.applications.profile) s && not (s == d.nscp.sector.0) && not (listed_otherwise d.applications.profile d.applications.bytes s)
 
 -- a service block: a data block of a sector for services that no item names
 unfoldable pub service_block : Directory → ℕ → Bool
-service_block d b = not (trailer b) && service_sector d (sector_of b) && not (any_of (λ i. names b (item_at d.nscp i)) 23)
+service_block d b = not (trailer b) && service_sector d (sector_of b) && not (any_of (λ i. names b (item_at d.nscp.bytes i)) 23)
 
 -- a block of a run that is no service block, or not there
 abbrev pub no_service : Directory → Option ℕ → Bool
@@ -46,10 +46,10 @@ number_is n (Some s) = s.number == n
 -- a slot is wrong by itself, or an earlier one has its number
 abbrev pub wrong_slot_as : Directory → ℕ → Option Slot → Bool
 wrong_slot_as d i None = false
-wrong_slot_as d i (Some s) = slot_wrong d s || any_of (λ j. number_is s.number (slot_at d.services j)) i
+wrong_slot_as d i (Some s) = slot_wrong d s || any_of (λ j. number_is s.number (slot_at d.services.bytes j)) i
 
 unfoldable pub wrong_slot : Directory → ℕ → Bool
-wrong_slot d i = wrong_slot_as d i (slot_at d.services i)
+wrong_slot d i = wrong_slot_as d i (slot_at d.services.bytes i)
 
 -- two used slots whose runs have a block in common
 abbrev pub share : Option Slot → Option Slot → Bool
@@ -79,7 +79,7 @@ header_clear services = slice_index services 1 == 0 && slice_index services 2 ==
 -- the header, and then the slots
 abbrev pub slots_judged : Directory → Answer (Unit {0})
 slots_judged d =
-    cond (header_clear d.services) (first_slot_judged (lower (lowest_of (wrong_slot d) 11) (lowest_of (shares_earlier d.services) 11))) (refuse ServicesSlot 0)
+    cond (header_clear d.services.bytes) (first_slot_judged (lower (lowest_of (wrong_slot d) 11) (lowest_of (shares_earlier d.services.bytes) 11))) (refuse ServicesSlot 0)
 
 -- the entry is a slot whose run has the block
 abbrev pub holds_block : ℕ → Option Slot → Bool
@@ -88,7 +88,7 @@ holds_block b (Some s) = runs_meet s.run.start.0 s.run.length b 1
 
 -- a service block in no slot's run
 unfoldable pub free_block : Directory → ℕ → Bool
-free_block d b = service_block d b && not (any_of (λ i. holds_block b (slot_at d.services i)) 11)
+free_block d b = service_block d b && not (any_of (λ i. holds_block b (slot_at d.services.bytes i)) 11)
 
 -- how many there are
 abbrev pub free_blocks : Directory → ℕ

@@ -1,20 +1,31 @@
-// The directories of a card, as they were read.
+// The directories of a card, as they were read, each at the front of 48 bytes.
 use layout::{Block, Profile, Sector};
 
-// Three directories of a card of a profile, each at the front of its 48 bytes.
+// An application directory, and the profile that says where it stands and which sectors it lists.
 #[derive(Clone, Copy)]
-pub struct Directory {
+pub struct Applications {
     pub profile: Profile,
-    pub mad: [u8; 48],
-    pub nscp_sector: Sector,
-    pub nscp: [u8; 48],
-    pub services_block: Block,
-    pub services: [u8; 48],
+    pub bytes: [u8; 48],
 }
 
-// The NSCP directory as it was read, and its sector.
+// An NSCP directory, and its sector.
 #[derive(Clone, Copy)]
 pub struct Nscp {
     pub sector: Sector,
     pub bytes: [u8; 48],
+}
+
+// A services directory, and its first block.
+#[derive(Clone, Copy)]
+pub struct Services {
+    pub block: Block,
+    pub bytes: [u8; 48],
+}
+
+// The three directories of a card.
+#[derive(Clone, Copy)]
+pub struct Directory {
+    pub applications: Applications,
+    pub nscp: Nscp,
+    pub services: Services,
 }

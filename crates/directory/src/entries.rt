@@ -26,10 +26,10 @@ pub struct Slot {
 // A kind of entry. All bytes 00 are an unused place.
 pub trait Entry: Sized {
     // the bytes before the first entry
-    ghost before: { ℕ };
+    ghost HEADER: { ℕ };
 
     // the bytes of an entry
-    ghost wide: { ℕ };
+    ghost WIDTH: { ℕ };
 
     ghost parse: { List ℕ → Self };
 
@@ -38,25 +38,23 @@ pub trait Entry: Sized {
     // the values that a place can hold: those that fit their bytes and are not all 00
     ghost fits: { Self → Type 0 };
 
-    fn header() -> usize
-        ensures { result ≡ before };
+    const HEADER: usize;
 
-    fn width() -> usize
-        ensures { result ≡ wide };
+    const WIDTH: usize;
 
     // What the bytes of a used place mean.
     fn read(bytes: &[u8]) -> Self
-        requires { length bytes.now ≡ wide }
+        requires { length bytes.now ≡ WIDTH }
         ensures { result ≡ parse bytes.now };
 
     // Writes the bytes that mean the value.
     fn write(self, bytes: &mut [u8])
-        requires { length bytes.old ≡ wide }
+        requires { length bytes.old ≡ WIDTH }
         ensures { bytes.new ≡ print self };
 
-    ghost small: { (before < 48) × (wide < 48) };
+    ghost small: { (HEADER < 48) × (WIDTH < 48) };
 
-    ghost whole: { (e : Self) → length (print e) ≡ wide };
+    ghost whole: { (e : Self) → length (print e) ≡ WIDTH };
 
     ghost used: { (e : Self) → fits e → unused (print e) ≡ false };
 
@@ -65,14 +63,11 @@ pub trait Entry: Sized {
 
 // Entry `i` of a directory, counted from 0; none where it is unused or past the end.
 pub fn entry_of<E: Entry>(directory: &[u8; 48], i: u8) -> Option<E>
-    ensures { result ≡ entry_at E.before E.wide E.parse directory.now i }
+    ensures { result ≡ entry_at E.HEADER E.WIDTH E.parse directory.now i }
 {
-    let width = E::width();
-    let start = E::header() + i as usize * width;
-    if start + width > 48 {
-        return None;
-    }
-    let bytes = &directory[start..start + width];
+    let width = E::WIDTH;
+    let start = E::HEADER + usize::from(i) * width;
+    let bytes = directory.get(start..start + width)?;
     if is_unused(bytes) {
         None
     } else {
@@ -82,20 +77,20 @@ pub fn entry_of<E: Entry>(directory: &[u8; 48], i: u8) -> Option<E>
 
 // Writes entry `i`, or marks it unused; nothing past the end. Reading gives it back, and the other entries are as they were.
 pub fn put_entry<E: Entry + Drop>(directory: &mut [u8; 48], i: u8, value: Option<E>)
-    ensures put { directory.new ≡ entry_put E.before E.wide E.print directory.old i value }
-    ensures back { Fit E.fits value → E.before + i * E.wide + E.wide ≤ 48 → entry_at E.before E.wide E.parse directory.new i ≡ value }
-    ensures others { (j : ℕ) → (j ≢ i) → entry_at E.before E.wide E.parse directory.new j ≡ entry_at E.before E.wide E.parse directory.old j }
+    ensures put { directory.new ≡ entry_put E.HEADER E.WIDTH E.print directory.old i value }
+    ensures back { Fit E.fits value → E.HEADER + i * E.WIDTH + E.WIDTH ≤ 48 → entry_at E.HEADER E.WIDTH E.parse directory.new i ≡ value }
+    ensures others { (j : ℕ) → (j ≢ i) → entry_at E.HEADER E.WIDTH E.parse directory.new j ≡ entry_at E.HEADER E.WIDTH E.parse directory.old j }
 {
-    let width = E::width();
-    let start = E::header() + i as usize * width;
+    let width = E::WIDTH;
+    let start = E::HEADER + usize::from(i) * width;
     if start + width <= 48 {
         fill_place(&mut directory[start..start + width], value);
     }
 }
 
 fn fill_place<E: Entry>(place: &mut [u8], value: Option<E>)
-    requires { length place.old ≡ E.wide }
-    ensures { place.new ≡ printed E.print E.wide value }
+    requires { length place.old ≡ E.WIDTH }
+    ensures { place.new ≡ printed E.print E.WIDTH value }
 {
     match value {
         Some(value) => value.write(place),
@@ -107,18 +102,13 @@ fn fill_place<E: Entry>(place: &mut [u8], value: Option<E>)
 fn is_unused(bytes: &[u8]) -> bool
     ensures { result ≡ unused bytes.now }
 {
-    for byte in bytes {
-        if *byte != 0 {
-            return false;
-        }
-    }
-    true
+    bytes.iter().all(|byte| *byte == 0)
 }
 
 impl Entry for Aid {
-    ghost before = { 2 };
+    ghost HEADER = { 2 };
 
-    ghost wide = { 2 };
+    ghost WIDTH = { 2 };
 
     ghost parse = { parse_aid };
 
@@ -134,27 +124,23 @@ impl Entry for Aid {
 
     ghost back = { Prim.search rules };
 
-    fn header() -> usize {
-        2
-    }
+    const HEADER: usize = 2;
 
-    fn width() -> usize {
-        2
-    }
+    const WIDTH: usize = 2;
 
     fn read(bytes: &[u8]) -> Aid {
         Aid(u16::from_le_bytes([bytes[0], bytes[1]]))
     }
 
     fn write(self, bytes: &mut [u8]) {
-        bytes.copy_from_slice(&[(self.0 % 256) as u8, (self.0 / 256) as u8]);
+        bytes.copy_from_slice(&self.0.to_le_bytes());
     }
 }
 
 impl Entry for Item {
-    ghost before = { 2 };
+    ghost HEADER = { 2 };
 
-    ghost wide = { 2 };
+    ghost WIDTH = { 2 };
 
     ghost parse = { parse_item };
 
@@ -170,13 +156,9 @@ impl Entry for Item {
 
     ghost back = { Prim.search rules };
 
-    fn header() -> usize {
-        2
-    }
+    const HEADER: usize = 2;
 
-    fn width() -> usize {
-        2
-    }
+    const WIDTH: usize = 2;
 
     fn read(bytes: &[u8]) -> Item {
         Item {
@@ -191,9 +173,9 @@ impl Entry for Item {
 }
 
 impl Entry for Slot {
-    ghost before = { 4 };
+    ghost HEADER = { 4 };
 
-    ghost wide = { 4 };
+    ghost WIDTH = { 4 };
 
     ghost parse = { parse_slot };
 
@@ -209,13 +191,9 @@ impl Entry for Slot {
 
     ghost back = { Prim.search rules };
 
-    fn header() -> usize {
-        4
-    }
+    const HEADER: usize = 4;
 
-    fn width() -> usize {
-        4
-    }
+    const WIDTH: usize = 4;
 
     fn read(bytes: &[u8]) -> Slot {
         Slot {
@@ -228,8 +206,7 @@ impl Entry for Slot {
     }
 
     fn write(self, bytes: &mut [u8]) {
-        let high = (self.number / 256) as u8;
-        let low = (self.number % 256) as u8;
+        let [high, low] = self.number.to_be_bytes();
         bytes.copy_from_slice(&[high, low, self.run.start.0, self.run.length]);
     }
 }

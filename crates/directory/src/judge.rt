@@ -18,21 +18,21 @@ pub(crate) fn judge_trailer(profile: Profile, trailer: &[u8; 16]) -> Result<(), 
 {
     let mad = profile.mad();
     if trailer[GENERAL_PURPOSE] != mad.general_purpose_byte {
-        return Err(Refusal::at(Reason::GeneralPurposeByte, mad.trailer.0 as usize));
+        return Err(Refusal::at(Reason::GeneralPurposeByte, usize::from(mad.trailer.0)));
     }
     Ok(())
 }
 
 // Reads the application directory of a card: its trailer is judged first, then its seal.
 pub(crate) fn read_mad<C: Card>(card: &mut C, profile: Profile) -> Result<[u8; 48], Refusal>
-    ensures { Taken C.blocks C.present C.steady (mad_look profile) card.old card.new result }
+    ensures { Taken C.Card (mad_look profile) card.old card.new result }
 {
     read_trailer(card, profile)?;
     read_sealed(card, profile.mad().run, Reason::MadChecksum)
 }
 
 fn read_trailer<C: Card>(card: &mut C, profile: Profile) -> Result<(), Refusal>
-    ensures { Taken C.blocks C.present C.steady (trailer_look profile) card.old card.new result }
+    ensures { Taken C.Card (trailer_look profile) card.old card.new result }
 {
     let trailer = read_block(card, profile.mad().trailer)?;
     judge_trailer(profile, &trailer)
@@ -46,12 +46,12 @@ pub(crate) fn read_sealed<C: Card>(
 ) -> Result<[u8; 48], Refusal>
     requires run { on_card run.start.0 run.length ≡ true }
     requires few { run.length ≤ 3 }
-    ensures { Taken C.blocks C.present C.steady (sealed_look reason run.start.0 run.length) card.old card.new result }
+    ensures { Taken C.Card (sealed_look reason run.start.0 run.length) card.old card.new result }
 {
     let mut bytes = [0u8; 48];
     read_run(card, run, &mut bytes)?;
-    if !is_sealed(&bytes[0..16 * run.length as usize]) {
-        return Err(Refusal::at(reason, run.start.0 as usize));
+    if !is_sealed(&bytes[0..16 * usize::from(run.length)]) {
+        return Err(Refusal::at(reason, usize::from(run.start.0)));
     }
     Ok(bytes)
 }

@@ -13,7 +13,7 @@ pub mod seal;
 pub mod services;
 pub mod slots;
 
-pub use accepted::Directory;
+pub use accepted::{Applications, Directory, Nscp, Services};
 pub use check::check_card;
 pub use entries::{Aid, Entry, Item, Slot, entry_of, put_entry};
 pub use reading::{read_block, read_run};

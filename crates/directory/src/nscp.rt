@@ -1,11 +1,13 @@
 // The NSCP directory: in which sector it stands, and whether its items are right.
 ghost use Rattle.std.specs.Prelude.{◌≡◌};
+ghost use Rattle.layout.specs.Profiles.{mad_of};
 ghost use Rattle.directory.specs.Entries.{aid_at, item_at};
-ghost use Rattle.directory.specs.Nscp.{aid_is, nscp_sector_judged, names_block, names_sector, item_wrong, tag_is, wrong_item, nscp_judged};
-ghost use Rattle.directory.specs.Searches.{any_of};
+ghost use Rattle.directory.specs.Nscp.{aid_is, is_nscp, nscp_sector_judged, names_block, names_sector, item_wrong, tag_is, wrong_item, nscp_judged};
+ghost use Rattle.directory.specs.Searches.{any_of, count_of, lowest_of};
 
+use crate::accepted::{Applications, Nscp};
 use crate::entries::{Aid, Item, entry_of};
-use layout::{Profile, Reason, Refusal, Sector};
+use layout::{Reason, Refusal, Sector};
 
 // The application identifier of the NSCP directory's sector.
 const NSCP: u16 = 0x4011;
@@ -13,34 +15,48 @@ const NSCP: u16 = 0x4011;
 // How many items the directory has room for.
 pub(crate) const ITEMS: u8 = 23;
 
-// The one sector that the application directory lists as the NSCP's, if it may stand there.
-pub(crate) fn nscp_sector(profile: Profile, mad: &[u8; 48]) -> Result<Sector, Refusal>
-    ensures { result ≡ nscp_sector_judged profile mad.now }
-{
-    let place = profile.mad();
-    let mut count = 0u8;
-    let mut last = 0u8;
-    for i in 0..place.listed {
-        if has_aid(mad, i, NSCP) {
-            count += 1;
-            last = i;
+impl Applications {
+    // The one listed sector that is the NSCP's, if it may stand there.
+    pub(crate) fn nscp_sector(&self) -> Result<Sector, Refusal>
+        ensures { result ≡ nscp_sector_judged self.now.profile self.now.bytes }
+    {
+        let count = self.count_nscp();
+        if let Some(i) = self.first_nscp() {
+            let sector = Sector(self.profile.mad().first_listed.0 + i);
+            if count == 1 && self.profile.may_hold_nscp(sector) {
+                return Ok(sector);
+            }
         }
-    }
-    let sector = Sector(place.first_listed.0 + last);
-    if count == 1 && profile.may_hold_nscp(sector) {
-        Ok(sector)
-    } else {
         Err(Refusal::at(Reason::NscpSector, 0))
     }
-}
 
-// Whether entry `i` of an application directory is this identifier.
-pub(crate) fn has_aid(mad: &[u8; 48], i: u8, aid: u16) -> bool
-    ensures { result ≡ aid_is aid (aid_at mad.now i) }
-{
-    match entry_of::<Aid>(mad, i) {
-        Some(found) => found.0 == aid,
-        None => false,
+    #[tactic(auto, unfolding(crate::specs::Searches::count_of))]
+    fn count_nscp(&self) -> usize
+        ensures { result ≡ count_of (is_nscp self.now.bytes) (mad_of self.now.profile).listed }
+    {
+        (0..self.profile.mad().listed)
+            .filter(|i| self.is_nscp(*i))
+            .count()
+    }
+
+    #[tactic(auto, unfolding(crate::specs::Searches::lowest_of))]
+    fn first_nscp(&self) -> Option<u8>
+        ensures { result ≡ lowest_of (is_nscp self.now.bytes) (mad_of self.now.profile).listed }
+    {
+        (0..self.profile.mad().listed).find(|i| self.is_nscp(*i))
+    }
+
+    fn is_nscp(&self, i: u8) -> bool
+        ensures { result ≡ is_nscp self.now.bytes i }
+    {
+        self.has_aid(i, NSCP)
+    }
+
+    // Whether entry `i` is this identifier.
+    pub(crate) fn has_aid(&self, i: u8, aid: u16) -> bool
+        ensures { result ≡ aid_is aid (aid_at self.now.bytes i) }
+    {
+        entry_of::<Aid>(&self.bytes, i).is_some_and(|found| found.0 == aid)
     }
 }
 
@@ -71,47 +87,53 @@ impl Item {
     }
 }
 
-// The header and then the items, the first wrong one deciding.
-pub(crate) fn judge_items(nscp: &[u8; 48]) -> Result<(), Refusal>
-    ensures { result ≡ nscp_judged nscp.now }
-{
-    if nscp[1] != 0 {
-        return Err(Refusal::at(Reason::NscpItem, 0));
+impl Nscp {
+    // Item `i`, counted from 0; none where it is unused or past the last.
+    pub(crate) fn item(&self, i: u8) -> Option<Item>
+        ensures { result ≡ item_at self.now.bytes i }
+    {
+        entry_of::<Item>(&self.bytes, i)
     }
-    for i in 0..ITEMS {
-        if is_wrong_item(nscp, i) {
-            return Err(Refusal::at(Reason::NscpItem, i as usize + 1));
+
+    // The header and then the items, the first wrong one deciding.
+    pub(crate) fn judge(&self) -> Result<(), Refusal>
+        ensures { result ≡ nscp_judged self.now.bytes }
+    {
+        if self.bytes[1] != 0 {
+            return Err(Refusal::at(Reason::NscpItem, 0));
+        }
+        match self.first_wrong() {
+            Some(i) => Err(Refusal::at(Reason::NscpItem, usize::from(i) + 1)),
+            None => Ok(()),
         }
     }
-    Ok(())
-}
 
-fn is_wrong_item(nscp: &[u8; 48], i: u8) -> bool
-    ensures { result ≡ wrong_item nscp.now i }
-{
-    match entry_of::<Item>(nscp, i) {
-        Some(item) => item.is_wrong() || has_tag(nscp, i, item.tag),
-        None => false,
+    #[tactic(auto, unfolding(crate::specs::Searches::lowest_of))]
+    fn first_wrong(&self) -> Option<u8>
+        ensures { result ≡ lowest_of (wrong_item self.now.bytes) 23 }
+    {
+        (0..ITEMS).find(|i| self.is_wrong_item(*i))
     }
-}
 
-// Whether one of the first `n` items has this tag.
-fn has_tag(nscp: &[u8; 48], n: u8, tag: u8) -> bool
-    ensures { result ≡ any_of (λ j. tag_is tag (item_at nscp.now j)) n }
-{
-    for j in 0..n {
-        if is_tagged(nscp, j, tag) {
-            return true;
-        }
+    #[tactic(auto, unfolding(crate::specs::Nscp::wrong_item))]
+    fn is_wrong_item(&self, i: u8) -> bool
+        ensures { result ≡ wrong_item self.now.bytes i }
+    {
+        self.item(i)
+            .is_some_and(|item| item.is_wrong() || self.has_tag(i, item.tag))
     }
-    false
-}
 
-pub(crate) fn is_tagged(nscp: &[u8; 48], i: u8, tag: u8) -> bool
-    ensures { result ≡ tag_is tag (item_at nscp.now i) }
-{
-    match entry_of::<Item>(nscp, i) {
-        Some(item) => item.tag == tag,
-        None => false,
+    // Whether one of the first `n` items has this tag.
+    #[tactic(auto, unfolding(crate::specs::Searches::any_of))]
+    fn has_tag(&self, n: u8, tag: u8) -> bool
+        ensures { result ≡ any_of (λ j. tag_is tag (item_at self.now.bytes j)) n }
+    {
+        (0..n).any(|j| self.is_tagged(j, tag))
+    }
+
+    pub(crate) fn is_tagged(&self, i: u8, tag: u8) -> bool
+        ensures { result ≡ tag_is tag (item_at self.now.bytes i) }
+    {
+        self.item(i).is_some_and(|item| item.tag == tag)
     }
 }

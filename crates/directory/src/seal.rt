@@ -8,9 +8,9 @@ use layout::{Crc8, checksum};
 pub fn is_sealed(directory: &[u8]) -> bool
     ensures { result ≡ sealed directory.now }
 {
-    match directory {
-        [sum, rest @ ..] => *sum == checksum::<Crc8>(rest),
-        [] => false,
+    match directory.split_first() {
+        Some((sum, rest)) => *sum == checksum::<Crc8>(rest),
+        None => false,
     }
 }
 
@@ -19,8 +19,7 @@ pub fn seal_directory(directory: &mut [u8])
     ensures value { directory.new ≡ resealed directory.old }
     ensures passes { 0 < length directory.old → sealed directory.new ≡ true }
 {
-    if directory.len() > 0 {
-        let sum = checksum::<Crc8>(&directory[1..]);
-        directory[0] = sum;
+    if let Some((sum, rest)) = directory.split_first_mut() {
+        *sum = checksum::<Crc8>(rest);
     }
 }

@@ -45,7 +45,7 @@ slot_line p blocks (Some s) = slot_words s ++ reading_words (reading_of p blocks
 -- the lines of the first n slots, in order
 unfoldable pub lines_of : Profile → Blocks → Directory → ℕ → List ℕ
 lines_of p blocks d zero = []
-lines_of p blocks d (suc n) = lines_of p blocks d n ++ slot_line p blocks (slot_at d.services n)
+lines_of p blocks d (suc n) = lines_of p blocks d n ++ slot_line p blocks (slot_at d.services.bytes n)
 
 -- `free 38`, in decimal
 abbrev pub free_line : ℕ → List ℕ

@@ -36,7 +36,7 @@ fn verdict_lines<C: Card>(
     station: &mut Station<C>,
     verdict: Result<Directory, Refusal>,
 ) -> Result<String, AllocError>
-    ensures { Wrote C.blocks C.steady station.old station.new (λ p b. verdict_lines p b verdict) result }
+    ensures { Wrote C.Card station.old station.new (λ p b. verdict_lines p b verdict) result }
 {
     match verdict {
         Ok(directory) => directory_lines(heap, station, &directory),
@@ -50,7 +50,7 @@ fn directory_lines<C: Card>(
     station: &mut Station<C>,
     directory: &Directory,
 ) -> Result<String, AllocError>
-    ensures { Wrote C.blocks C.steady station.old station.new (λ p b. lines_of p b directory.now 11 ++ free_line (free_blocks directory.now)) result }
+    ensures { Wrote C.Card station.old station.new (λ p b. lines_of p b directory.now 11 ++ free_line (free_blocks directory.now)) result }
 {
     let mut text = slot_lines(heap, station, directory)?;
     let free = free_line(heap, directory.count_free())?;

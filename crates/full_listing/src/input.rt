@@ -15,6 +15,6 @@ pub fn input_of(letter: &str, bytes: &[u8]) -> Result<Input, Refusal>
     ensures { result ≡ input_of letter.now bytes.now }
 {
     let image = image_of(bytes)?;
-    let profile = Profile::from_letter(letter)?;
+    let profile = letter.parse::<Profile>()?;
     Ok(Input { profile, image })
 }

@@ -19,7 +19,7 @@ pub(crate) fn slot_lines<C: Card>(
     station: &mut Station<C>,
     directory: &Directory,
 ) -> Result<String, AllocError>
-    ensures { Wrote C.blocks C.steady station.old station.new (λ p b. lines_of p b directory.now 11) result }
+    ensures { Wrote C.Card station.old station.new (λ p b. lines_of p b directory.now 11) result }
 {
     let mut text = String::new(heap);
     for i in 0..SLOTS {
@@ -35,7 +35,7 @@ fn slot_text<C: Card>(
     station: &mut Station<C>,
     slot: Option<Slot>,
 ) -> Result<String, AllocError>
-    ensures { Wrote C.blocks C.steady station.old station.new (λ p b. slot_line p b slot) result }
+    ensures { Wrote C.Card station.old station.new (λ p b. slot_line p b slot) result }
 {
     match slot {
         Some(slot) => {
@@ -48,7 +48,7 @@ fn slot_text<C: Card>(
 
 // Reads a service, whatever the length of its run.
 fn read_service<C: Card>(station: &mut Station<C>, number: u16) -> Result<Reading, Refusal>
-    ensures { Answered C.blocks C.steady number station.old station.new result }
+    ensures { Answered C.Card number station.old station.new result }
 {
     let mut buffer = [0u8; ANY_RUN];
     station.read(number, &mut buffer)

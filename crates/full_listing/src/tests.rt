@@ -191,7 +191,7 @@ fn refused<T: Drop>(answer: Result<T, Refusal>) -> (u8, usize) {
 
 // The directory check of an image.
 fn verdict(letter: &str, image: Image) -> Result<Directory, Refusal> {
-    let profile = Profile::from_letter(letter)?;
+    let profile = letter.parse::<Profile>()?;
     let mut bytes = image;
     let mut card = ImageCard::new(&mut bytes);
     check_card(&mut card, profile)

@@ -1,5 +1,5 @@
 -- Which number each refusal has, and how one is made. Assumes nothing.
-use Rattle.std.specs.Prelude.{ℕ, Ok, Err, Result}
+use Rattle.std.specs.Prelude.{ℕ, List, ◌++◌, Ok, Err, codes, decimal, Result}
 use Rattle.layout.specs.declared.refusals.Reason.{Reason}
 use Rattle.layout.specs.declared.refusals.Reason.TheVariants.{ProfileLetter, CardGone, GeneralPurposeByte, MadChecksum, NscpSector, NscpChecksum, NscpItem, ServicesSector, ServicesChecksum, ServicesSlot, ServiceNumber, ServiceAbsent, DataFrame, DataChecksum, DataObject, DataPadding, BufferLength, OuterTag, NewContent, ImageSize}
 use Rattle.layout.specs.declared.refusals.Refusal.{Refusal}
@@ -30,6 +30,10 @@ number_of ImageSize = 28
 -- a refusal at a place
 abbrev pub refusal : Reason → ℕ → Refusal
 refusal why at = record { reason = why; place = at }
+
+-- `refused 12 at 0`, both decimal
+abbrev pub refusal_words : Refusal → List ℕ
+refusal_words r = codes "refused " ++ (decimal (number_of r.reason) ++ (codes " at " ++ decimal r.place))
 
 -- an answer or a refusal
 abbrev pub Answer : Type 0 → Type 0

@@ -13,17 +13,16 @@ pub trait ChecksumKind {
     // the states that a register of this kind can be in
     ghost fits: { Self.State → Type 0 };
 
-    ghost start: { Self.State };
+    ghost START: { Self.State };
 
     ghost step: { Self.State → ℕ → Self.State };
 
-    fn initial() -> Self::State
-        ensures { result ≡ start };
+    const START: Self::State;
 
     fn update(state: Self::State, byte: u8) -> Self::State
         ensures { result ≡ step state byte };
 
-    ghost starts: { fits start };
+    ghost starts: { fits START };
 
     ghost stays: { (s : Self.State) (b : ℕ) → fits s → b < 256 → fits (step s b) };
 
@@ -45,7 +44,9 @@ impl ChecksumKind for Crc8 {
 
     ghost fits = { λ s. s < 2 ^ 8 };
 
-    ghost start = { 0xC7 };
+    ghost START = { 0xC7 };
+
+    const START: u8 = 0xC7;
 
     ghost step = { stepped 8 0x1D };
 
@@ -57,10 +58,6 @@ impl ChecksumKind for Crc8 {
 
     ghost shows = { stepped_shows 8 0x1D register8 refl };
 
-    fn initial() -> u8 {
-        0xC7
-    }
-
     fn update(state: u8, byte: u8) -> u8 {
         step_by(8, 0x1D, u16::from(state), byte) as u8
     }
@@ -71,7 +68,9 @@ impl ChecksumKind for Crc16 {
 
     ghost fits = { λ s. s < 2 ^ 16 };
 
-    ghost start = { 0xFFFF };
+    ghost START = { 0xFFFF };
+
+    const START: u16 = 0xFFFF;
 
     ghost step = { stepped 16 0x1021 };
 
@@ -82,10 +81,6 @@ impl ChecksumKind for Crc16 {
     ghost apart = { stepped_apart 16 0x1021 register16 refl };
 
     ghost shows = { stepped_shows 16 0x1021 register16 refl };
-
-    fn initial() -> u16 {
-        0xFFFF
-    }
 
     fn update(state: u16, byte: u8) -> u16 {
         step_by(16, 0x1021, state, byte)
@@ -113,10 +108,10 @@ fn step_by(width: u8, polynomial: u16, state: u16, byte: u8) -> u16
 
 // The checksum of some bytes.
 pub fn checksum<K: ChecksumKind>(bytes: &[u8]) -> K::State
-    ensures value { result ≡ fold K.step K.start bytes.now }
-    ensures shows { (ys : List ℕ) → Bytes ys → DifferInOne bytes.now ys → fold K.step K.start ys ≢ result }
+    ensures value { result ≡ fold K.step K.START bytes.now }
+    ensures shows { (ys : List ℕ) → Bytes ys → DifferInOne bytes.now ys → fold K.step K.START ys ≢ result }
 {
-    let mut state = K::initial();
+    let mut state = K::START;
     for byte in bytes {
         state = K::update(state, *byte);
     }

@@ -11,8 +11,5 @@ pub type Image = [u8; 4096];
 pub fn image_of(bytes: &[u8]) -> Result<Image, Refusal>
     ensures { result ≡ image_of bytes.now }
 {
-    match Image::try_from(bytes) {
-        Ok(image) => Ok(image),
-        Err(_) => Err(Refusal::at(Reason::ImageSize, 0)),
-    }
+    Image::try_from(bytes).map_err(|_| Refusal::at(Reason::ImageSize, 0))
 }

@@ -7,6 +7,8 @@ ghost use Rattle.layout.specs.Refusals.{refusal};
 use crate::numbers::{Block, Sector};
 use crate::refusals::{Reason, Refusal};
 use crate::runs::Run;
+use std::fmt;
+use std::str::FromStr;
 
 // Which sectors of a card belong to the scheme.
 #[derive(Clone, Copy, PartialEq, Eq, Debug)]
@@ -28,11 +30,15 @@ pub struct Mad {
     pub listed: u8,
 }
 
-impl Profile {
-    // The profile of a letter; refused unless it is one capital letter from A to E.
-    pub fn from_letter(letter: &str) -> Result<Profile, Refusal>
-        ensures { result ≡ ok_or (profile_of letter.now) (refusal Reason.ProfileLetter 0) }
-    {
+// The profile of a letter; refused unless it is one capital letter from A to E.
+impl FromStr for Profile {
+    type Err = Refusal;
+
+    ghost use Rattle.layout.specs.declared.refusals.Reason.TheVariants.{ProfileLetter};
+
+    ghost from_str_gives = { λ letter answer. answer ≡ ok_or (profile_of letter) (refusal ProfileLetter 0) };
+
+    fn from_str(letter: &str) -> Result<Profile, Refusal> {
         match letter.as_bytes() {
             [b'A'] => Ok(Profile::A),
             [b'B'] => Ok(Profile::B),
@@ -42,7 +48,18 @@ impl Profile {
             _ => Err(Refusal::at(Reason::ProfileLetter, 0)),
         }
     }
+}
 
+// The profile's letter.
+impl fmt::Display for Profile {
+    ghost output = { λ profile. Some (letter_of profile) };
+
+    fn fmt<W: fmt::Write>(&self, f: &mut fmt::Formatter<W>) -> fmt::Result {
+        f.write_str(self.letter())
+    }
+}
+
+impl Profile {
     // The profile's letter.
     pub fn letter(self) -> &'static str
         ensures value { result.now ≡ letter_of self }

@@ -1,6 +1,9 @@
 // Why a card or an input is refused.
-ghost use Rattle.std.specs.Prelude.{◌≡◌};
-ghost use Rattle.layout.specs.Refusals.{number_of, refusal};
+ghost use Rattle.std.specs.Prelude.{◌≡◌, Some};
+ghost use Rattle.layout.specs.Refusals.{number_of, refusal, refusal_words};
+
+use std::error::Error;
+use std::fmt;
 
 // The reasons, each with the number that is printed.
 #[derive(Clone, Copy, PartialEq, Eq, Debug)]
@@ -69,3 +72,14 @@ impl Refusal {
         self.reason as u8
     }
 }
+
+// `refused 12 at 0`: the number and the place.
+impl fmt::Display for Refusal {
+    ghost output = { λ refusal. Some (refusal_words refusal) };
+
+    fn fmt<W: fmt::Write>(&self, f: &mut fmt::Formatter<W>) -> fmt::Result {
+        write!(f, "refused {} at {}", self.number(), self.place)
+    }
+}
+
+impl Error for Refusal {}

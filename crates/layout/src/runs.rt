@@ -58,5 +58,5 @@ impl Run {
 fn meet(a: Rank, m: u8, b: Rank, n: u8) -> bool
     ensures { result ≡ (nat_lt a.0 (b.0 + n) && nat_lt b.0 (a.0 + m)) }
 {
-    (a.0 as u16) < b.0 as u16 + n as u16 && (b.0 as u16) < a.0 as u16 + m as u16
+    u16::from(a.0) < u16::from(b.0) + u16::from(n) && u16::from(b.0) < u16::from(a.0) + u16::from(m)
 }

@@ -61,7 +61,7 @@ profile_line letter = codes "profile " ++ (letter ++ codes "\n")
 
 -- what is said of a card: the used slots and how many blocks are free, or why it is refused
 abbrev pub verdict_lines : Answer Directory → List ℕ
-verdict_lines (Ok d) = lines_of d.services 11 ++ free_line (free_blocks d)
+verdict_lines (Ok d) = lines_of d.services.bytes 11 ++ free_line (free_blocks d)
 verdict_lines (Err r) = refused_line (number_of r.reason)
 
 abbrev pub card_record : Listing → List ℕ

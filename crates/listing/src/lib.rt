@@ -24,7 +24,7 @@ pub fn list(letter: &str, bytes: &[u8]) -> Result<Listing, Refusal>
     ensures { result ≡ listed letter.now bytes.now }
 {
     let mut image = image_of(bytes)?;
-    let profile = Profile::from_letter(letter)?;
+    let profile = letter.parse::<Profile>()?;
     let verdict = judge(&mut image, profile);
     Ok(Listing { profile, verdict })
 }

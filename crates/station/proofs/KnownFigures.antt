@@ -8,7 +8,7 @@ use Rattle.directory.specs.Checks.{check_look}
 use Rattle.directory.specs.Entries.{entry_at}
 use Rattle.directory.specs.Nscp.{wrong_item}
 use Rattle.directory.specs.Reads.{run_touches}
-use Rattle.directory.specs.Searches.{any_of, count_of, last_of, lowest_of}
+use Rattle.directory.specs.Searches.{any_of, count_of, lowest_of}
 use Rattle.directory.specs.Slots.{service_block, slot_wrong, wrong_slot, shares_earlier}
 use Rattle.directory.proofs.KnownFigures.{known as known_directories}
 use Rattle.service.specs.Frames.{frame_in}
@@ -19,5 +19,5 @@ use Rattle.station.specs.Finds.{found_in}
 use Rattle.station.specs.Reads.{read_look}
 
 pub together : Together
-unfolding rank_of data_block round rounds stepped run_block on_card runs_meet check_look entry_at wrong_item run_touches any_of count_of last_of lowest_of service_block slot_wrong wrong_slot shares_earlier frame_in object_at objects_from found_in read_look
+unfolding rank_of data_block round rounds stepped run_block on_card runs_meet check_look entry_at wrong_item run_touches any_of count_of lowest_of service_block slot_wrong wrong_slot shares_earlier frame_in object_at objects_from found_in read_look
 together = record { memory = known_memory; directories = known_directories; content = known_data; found = refl; read = refl }

@@ -10,6 +10,7 @@ use Rattle.layout.specs.declared.profiles.Profile.{Profile}
 use Rattle.layout.specs.declared.refusals.Reason.TheVariants.{BufferLength}
 use Rattle.layout.specs.declared.refusals.Refusal.{Refusal}
 use Rattle.card.specs.Blocks.{Blocks}
+use Rattle.card.specs.declared.interface.Card.{Ghosts as CardKind}
 use Rattle.directory.specs.Checks.{check_look, reads, verdict}
 use Rattle.directory.specs.Looks.{Look, judged, then_look, touches_after, lost_at, unless_lost, Taken}
 use Rattle.directory.specs.Reads.{touch_look, joined, Filled}
@@ -35,8 +36,9 @@ room_ok d number room f found enough =
 nth_inside : (xs : List ℕ) (i b : ℕ) → slice_get xs i ≡ Some b → i < length xs
 nth_inside xs i b e = ⊎_elim (λ low. low) (λ past. let none = slice_get_past xs i past in let z : ◌≡◌ {A = ℕ} 0 1 = cc in absurd (omega arith)) (cases_lt i (length xs))
 
-module _ {C : Type 0} (blocks : C → Blocks) (present : C → Bool) (steady : C → Type 0) (full : (card : C) (b : ℕ) → length (blocks card b) ≡ 16)
-    (p : Profile) (number : ℕ) (card : C) (before : List ℕ) where
+module _ {C : Type 0} (kind : CardKind C) (p : Profile) (number : ℕ) (card : C) (before : List ℕ) where
+  open kind use {blocks}
+
   -- where no block of the run was read, the buffer is as it was
   unread : (stay : ℕ) → length (take stay (read_look p number (length before) (blocks card)).touches) ≤ length (reads p (blocks card))
       → before ≡ overlaid (joined (blocks card) (run_read p number (length before) (blocks card) stay)) before
@@ -50,10 +52,10 @@ module _ {C : Type 0} (blocks : C → Blocks) (present : C → Bool) (steady : C
   few_stay stay few = unread stay (omega (arith, length-take stay (read_look p number (length before) (blocks card)).touches))
 
   -- the number is refused
-  pub number_refused : (e : Refusal) → readable number ≡ Err e → ReadDone blocks present steady p number card card before before (Err e)
+  pub number_refused : (e : Refusal) → readable number ≡ Err e → ReadDone kind p number card card before before (Err e)
   unfolding read_look
   number_refused e is = record {
-    taken = taken_stop blocks present steady (λ _. judged (readable number)) (λ b _. then_look (check_look p b) (after_check number (length before) b)) e (taken_none blocks present steady (readable number) card) is;
+    taken = taken_stop kind (λ _. judged (readable number)) (λ b _. then_look (check_look p b) (after_check number (length before) b)) e (taken_none kind (readable number) card) is;
     buffer = few_touches _ (omega (arith, ap (λ a. length (touches_after a (λ _. then_look (check_look p (blocks card)) (after_check number (length before) (blocks card))))) is));
   }
 
@@ -63,23 +65,23 @@ module _ {C : Type 0} (blocks : C → Blocks) (present : C → Bool) (steady : C
     unfolding read_look
     asked_after = ap (λ a. touches_after a (λ _. then_look (check_look p (blocks card)) (after_check number (length before) (blocks card)))) numbered
 
-    behind_number : {later : C} {s : Answer Reading} → Taken blocks present steady (λ b. then_look (check_look p b) (after_check number (length before) b)) card later s
-        → Taken blocks present steady (read_look p number (length before)) card later s
+    behind_number : {later : C} {s : Answer Reading} → Taken kind (λ b. then_look (check_look p b) (after_check number (length before) b)) card later s
+        → Taken kind (read_look p number (length before)) card later s
     unfolding read_look
-    behind_number v = taken_then blocks present steady (λ _. judged (readable number)) (λ b _. then_look (check_look p b) (after_check number (length before) b)) tt (taken_none blocks present steady (readable number) card) numbered v
+    behind_number v = taken_then kind (λ _. judged (readable number)) (λ b _. then_look (check_look p b) (after_check number (length before) b)) tt (taken_none kind (readable number) card) numbered v
 
-    stay_behind : {later : C} {s : Answer Reading} (v : Taken blocks present steady (λ b. then_look (check_look p b) (after_check number (length before) b)) card later s)
+    stay_behind : {later : C} {s : Answer Reading} (v : Taken kind (λ b. then_look (check_look p b) (after_check number (length before) b)) card later s)
         → (behind_number v).looked.stay ≡ v.looked.stay
     unfolding read_look behind_number
-    stay_behind v = stay_then blocks present steady (λ _. judged (readable number)) (λ b _. then_look (check_look p b) (after_check number (length before) b)) tt (taken_none blocks present steady (readable number) card) numbered v ∙ zero-add v.looked.stay
+    stay_behind v = stay_then kind (λ _. judged (readable number)) (λ b _. then_look (check_look p b) (after_check number (length before) b)) tt (taken_none kind (readable number) card) numbered v ∙ zero-add v.looked.stay
 
     -- the directory check refuses
-    pub check_refused : (later : C) (r : Answer Directory) (e : Refusal) → Taken blocks present steady (check_look p) card later r → r ≡ Err e → ReadDone blocks present steady p number card later before before (Err e)
+    pub check_refused : (later : C) (r : Answer Directory) (e : Refusal) → Taken kind (check_look p) card later r → r ≡ Err e → ReadDone kind p number card later before before (Err e)
     check_refused later r e w is =
-        let v = taken_stop blocks present steady (check_look p) (λ b. after_check number (length before) b) e w is in
-        record { taken = behind_number v; buffer = by_lost (lost_at (check_look p (blocks card)) w.looked.stay) refl v (stay_behind v ∙ stay_stop blocks present steady (check_look p) (λ b. after_check number (length before) b) e w is) }
+        let v = taken_stop kind (check_look p) (λ b. after_check number (length before) b) e w is in
+        record { taken = behind_number v; buffer = by_lost (lost_at (check_look p (blocks card)) w.looked.stay) refl v (stay_behind v ∙ stay_stop kind (check_look p) (λ b. after_check number (length before) b) e w is) }
       where
-        by_lost : (lost : Option ℕ) → lost_at (check_look p (blocks card)) w.looked.stay ≡ lost → (v : Taken blocks present steady (λ b. then_look (check_look p b) (after_check number (length before) b)) card later (Err e))
+        by_lost : (lost : Option ℕ) → lost_at (check_look p (blocks card)) w.looked.stay ≡ lost → (v : Taken kind (λ b. then_look (check_look p b) (after_check number (length before) b)) card later (Err e))
             → (behind_number v).looked.stay ≡ w.looked.stay
             → before ≡ overlaid (joined (blocks card) (run_read p number (length before) (blocks card) (behind_number v).looked.stay)) before
         by_lost (Some b) lost v level = few_stay _ (omega (arith, nth_inside (reads p (blocks card)) w.looked.stay b lost))
@@ -90,7 +92,7 @@ module _ {C : Type 0} (blocks : C → Blocks) (present : C → Bool) (steady : C
               ap length (asked_after ∙ ap (λ a. reads p (blocks card) ++ touches_after a (after_check number (length before) (blocks card))) refused ∙ append-nil (reads p (blocks card))),
             ))
 
-    module _ (later : C) (d : Directory) (w : Taken blocks present steady (check_look p) card later (Ok d)) where
+    module _ (later : C) (d : Directory) (w : Taken kind (check_look p) card later (Ok d)) where
       -- a check that was not refused lost no read
       pub kept : verdict p (blocks card) ≡ Ok d
       kept = by_lost (lost_at (check_look p (blocks card)) w.looked.stay) w.looked.answer
@@ -102,35 +104,35 @@ module _ {C : Type 0} (blocks : C → Blocks) (present : C → Bool) (steady : C
       asked_run : (read_look p number (length before) (blocks card)).touches ≡ reads p (blocks card) ++ touches_after (room_for d number (length before)) (run_look (blocks card))
       asked_run = asked_after ∙ ap (λ a. reads p (blocks card) ++ touches_after a (after_check number (length before) (blocks card))) kept
 
-      behind_check : {last : C} {s : Answer Reading} → Taken blocks present steady (λ b. after_check number (length before) b d) later last s
-          → Taken blocks present steady (λ b. then_look (check_look p b) (after_check number (length before) b)) card last s
-      behind_check v = taken_then blocks present steady (check_look p) (λ b. after_check number (length before) b) d w refl v
+      behind_check : {last : C} {s : Answer Reading} → Taken kind (λ b. after_check number (length before) b d) later last s
+          → Taken kind (λ b. then_look (check_look p b) (after_check number (length before) b)) card last s
+      behind_check v = taken_then kind (check_look p) (λ b. after_check number (length before) b) d w refl v
 
-      stay_checked : {last : C} {s : Answer Reading} (v : Taken blocks present steady (λ b. after_check number (length before) b d) later last s)
+      stay_checked : {last : C} {s : Answer Reading} (v : Taken kind (λ b. after_check number (length before) b d) later last s)
           → (behind_check v).looked.stay ≡ length (reads p (blocks card)) + v.looked.stay
       unfolding behind_check
-      stay_checked v = stay_then blocks present steady (check_look p) (λ b. after_check number (length before) b) d w refl v
+      stay_checked v = stay_then kind (check_look p) (λ b. after_check number (length before) b) d w refl v
 
       -- no such service, or a short buffer
-      pub found_refused : (e : Refusal) → room_for d number (length before) ≡ Err e → ReadDone blocks present steady p number card later before before (Err e)
+      pub found_refused : (e : Refusal) → room_for d number (length before) ≡ Err e → ReadDone kind p number card later before before (Err e)
       found_refused e is =
-          let v = behind_check (taken_stop blocks present steady (λ _. judged (room_for d number (length before))) (λ b. run_look b) e (taken_none blocks present steady (room_for d number (length before)) later) is) in
+          let v = behind_check (taken_stop kind (λ _. judged (room_for d number (length before))) (λ b. run_look b) e (taken_none kind (room_for d number (length before)) later) is) in
           record {
             taken = behind_number v;
             buffer = few_touches _ (omega (arith, ap length (asked_run ∙ ap (λ a. reads p (blocks card) ++ touches_after a (run_look (blocks card))) is ∙ append-nil (reads p (blocks card)))));
           }
 
       module _ (f : Found) (room : room_for d number (length before) ≡ Ok f) where
-        behind_found : {last : C} {s : Answer Reading} → Taken blocks present steady (λ b. run_look b f) later last s → Taken blocks present steady (λ b. after_check number (length before) b d) later last s
-        behind_found v = taken_then blocks present steady (λ _. judged (room_for d number (length before))) (λ b. run_look b) f (taken_none blocks present steady (room_for d number (length before)) later) room v
+        behind_found : {last : C} {s : Answer Reading} → Taken kind (λ b. run_look b f) later last s → Taken kind (λ b. after_check number (length before) b d) later last s
+        behind_found v = taken_then kind (λ _. judged (room_for d number (length before))) (λ b. run_look b) f (taken_none kind (room_for d number (length before)) later) room v
 
-        stay_found : {last : C} {s : Answer Reading} (v : Taken blocks present steady (λ b. run_look b f) later last s)
+        stay_found : {last : C} {s : Answer Reading} (v : Taken kind (λ b. run_look b f) later last s)
             → (behind_number (behind_check (behind_found v))).looked.stay ≡ length (reads p (blocks card)) + v.looked.stay
         unfolding behind_found
         stay_found v =
             stay_behind (behind_check (behind_found v)) ∙ stay_checked (behind_found v)
             ∙ ap (λ k. length (reads p (blocks card)) + k)
-            (stay_then blocks present steady (λ _. judged (room_for d number (length before))) (λ b. run_look b) f (taken_none blocks present steady (room_for d number (length before)) later) room v ∙ zero-add v.looked.stay)
+            (stay_then kind (λ _. judged (room_for d number (length before))) (λ b. run_look b) f (taken_none kind (room_for d number (length before)) later) room v ∙ zero-add v.looked.stay)
 
         -- the blocks of the run that were read
         run_read_lem : (stay s : ℕ) → stay ≡ length (reads p (blocks card)) + s → run_read p number (length before) (blocks card) stay ≡ take s (touches_of f)
@@ -151,32 +153,32 @@ module _ {C : Type 0} (blocks : C → Blocks) (present : C → Bool) (steady : C
             front ∙ (λ i. overlaid (joined (w.looked.same i) (take s (touches_of f))) before) ∙ ap (λ t. overlaid (joined (blocks card) t) before) (sym (run_read_lem stay s level))
 
         -- the card went while the run was read
-        pub run_gone : (last : C) (after : List ℕ) (e : Refusal) → Filled blocks present steady (touches_of f) later last before after (Err e) → ReadDone blocks present steady p number card last before after (Err e)
+        pub run_gone : (last : C) (after : List ℕ) (e : Refusal) → Filled kind (touches_of f) later last before after (Err e) → ReadDone kind p number card last before after (Err e)
         run_gone last after e filled =
             let judgement : Blocks → Unit {0} → Look Reading = λ b _. judged (reading_in (joined b (touches_of f))) in
-            let v = taken_stop blocks present steady (touch_look (touches_of f)) judgement e filled.taken refl in
+            let v = taken_stop kind (touch_look (touches_of f)) judgement e filled.taken refl in
             record {
               taken = behind_number (behind_check (behind_found v));
               buffer = front_is last after filled.taken.looked.stay _
-                  (stay_found v ∙ ap (λ k. length (reads p (blocks card)) + k) (stay_stop blocks present steady (touch_look (touches_of f)) judgement e filled.taken refl))
+                  (stay_found v ∙ ap (λ k. length (reads p (blocks card)) + k) (stay_stop kind (touch_look (touches_of f)) judgement e filled.taken refl))
                   filled.front;
             }
 
         -- the run was read, and the frame in it judged
-        pub run_done : (last : C) (after : List ℕ) (s : Answer Reading) → Filled blocks present steady (touches_of f) later last before after (Ok tt) → s ≡ reading_in (take (16 * f.run.length) after)
-            → ReadDone blocks present steady p number card last before after s
+        pub run_done : (last : C) (after : List ℕ) (s : Answer Reading) → Filled kind (touches_of f) later last before after (Ok tt) → s ≡ reading_in (take (16 * f.run.length) after)
+            → ReadDone kind p number card last before after s
         run_done last after s filled is =
             let touches = touches_of f in
             let bytes = joined (blocks later) touches in
-            let whole = filled_whole blocks present steady full touches later last before after filled in
-            let long : length bytes ≡ 16 * f.run.length = length_joined blocks present steady full later touches ∙ ap (λ n. 16 * n) (length_touches f.run.start.0 f.run.length) in
+            let whole = filled_whole kind touches later last before after filled in
+            let long : length bytes ≡ 16 * f.run.length = length_joined kind later touches ∙ ap (λ n. 16 * n) (length_touches f.run.start.0 f.run.length) in
             let front : take (16 * f.run.length) after ≡ bytes = ap (take (16 * f.run.length)) whole ∙ take_at bytes (drop (length bytes) before) (16 * f.run.length) long in
             let judgement : Blocks → Unit {0} → Answer Reading = λ b _. reading_in (joined b touches) in
             let e : s ≡ reading_in bytes = is ∙ ap reading_in front in
-            let v = taken_judge blocks present steady (touch_look touches) judgement tt filled.taken refl e in
+            let v = taken_judge kind (touch_look touches) judgement tt filled.taken refl e in
             record {
               taken = behind_number (behind_check (behind_found v));
               buffer = front_is last after (length touches + 0) _
-                  (stay_found v ∙ ap (λ k. length (reads p (blocks card)) + k) (stay_judge blocks present steady (touch_look touches) judgement tt filled.taken refl e))
+                  (stay_found v ∙ ap (λ k. length (reads p (blocks card)) + k) (stay_judge kind (touch_look touches) judgement tt filled.taken refl e))
                   (whole ∙ ap (λ t. overlaid (joined (blocks later) t) before) (sym (take_all (length touches + 0) touches (omega arith))));
             }

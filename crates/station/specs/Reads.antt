@@ -5,6 +5,7 @@ use Rattle.layout.specs.Refusals.{Answer, then, refuse}
 use Rattle.layout.specs.declared.profiles.Profile.{Profile}
 use Rattle.layout.specs.declared.refusals.Reason.TheVariants.{BufferLength}
 use Rattle.card.specs.Blocks.{Blocks}
+use Rattle.card.specs.declared.interface.Card.{Ghosts as CardKind}
 use Rattle.directory.specs.Checks.{check_look, reads}
 use Rattle.directory.specs.Looks.{Look, judged, then_look, Taken}
 use Rattle.directory.specs.Reads.{run_touches, touch_look, joined}
@@ -51,6 +52,6 @@ abbrev pub run_read : Profile → ℕ → ℕ → Blocks → ℕ → List ℕ
 run_read p number room blocks stay = drop (length (reads p blocks)) (take stay (read_look p number room blocks).touches)
 
 -- a service was read from a card of any kind into a buffer: its front holds the blocks of the run that the card stayed for
-pub record ReadDone {C : Type 0} (blocks : C → Blocks) (present : C → Bool) (steady : C → Type 0) (p : Profile) (number : ℕ) (card later : C) (before after : List ℕ) (r : Answer Reading) : Type 0 where
-  pub taken : Taken blocks present steady (read_look p number (length before)) card later r
-  pub buffer : after ≡ overlaid (joined (blocks card) (run_read p number (length before) (blocks card) taken.looked.stay)) before
+pub record ReadDone {C : Type 0} (kind : CardKind C) (p : Profile) (number : ℕ) (card later : C) (before after : List ℕ) (r : Answer Reading) : Type 0 where
+  pub taken : Taken kind (read_look p number (length before)) card later r
+  pub buffer : after ≡ overlaid (joined (kind.blocks card) (run_read p number (length before) (kind.blocks card) taken.looked.stay)) before

@@ -18,7 +18,7 @@ pub struct Reading {
 pub(crate) fn judge_room(run: Run, room: usize) -> Result<(), Refusal>
     ensures { result ≡ room_judged run.length room }
 {
-    let need = 16 * run.length as usize;
+    let need = 16 * usize::from(run.length);
     if room < need {
         return Err(Refusal::at(Reason::BufferLength, need));
     }
@@ -30,7 +30,7 @@ pub(crate) fn frame_in(buffer: &[u8], blocks: u8) -> Result<Reading, Refusal>
     requires { 16 * blocks ≤ length buffer.now }
     ensures { result ≡ reading_in (take (16 * blocks) buffer.now) }
 {
-    let end = 16 * blocks as usize;
+    let end = 16 * usize::from(blocks);
     let frame = read_frame(&buffer[0..end])?;
     Ok(Reading {
         tag: frame.tag,

@@ -1,24 +1,20 @@
 // Which service numbers a call takes.
 ghost use Rattle.std.specs.Prelude.{◌≡◌};
-ghost use Rattle.station.specs.Finds.{findable, readable};
+ghost use Rattle.station.specs.Finds.{number_judged};
 
 use layout::{Reason, Refusal};
 
 // 0000 is no service.
-pub(crate) fn judge_findable(number: u16) -> Result<(), Refusal>
-    ensures { result ≡ findable number }
-{
-    if number == 0x0000 {
-        return Err(Refusal::at(Reason::ServiceNumber, 0));
-    }
-    Ok(())
-}
+pub(crate) const NOT_FINDABLE: [u16; 1] = [0x0000];
 
 // Nor has 9999 data of its own to be read.
-pub(crate) fn judge_readable(number: u16) -> Result<(), Refusal>
-    ensures { result ≡ readable number }
+pub(crate) const NOT_READABLE: [u16; 2] = [0x0000, 0x9999];
+
+// The number is none of those that a call does not take.
+pub(crate) fn judge_number(number: u16, excepted: &[u16]) -> Result<(), Refusal>
+    ensures { result ≡ number_judged excepted.now number }
 {
-    if number == 0x0000 || number == 0x9999 {
+    if excepted.iter().any(|n| *n == number) {
         return Err(Refusal::at(Reason::ServiceNumber, 0));
     }
     Ok(())

@@ -1,5 +1,7 @@
 // The slot that has a service's number.
 ghost use Rattle.std.specs.Prelude.{◌≡◌, ◌<◌};
+ghost use Rattle.directory.specs.Entries.{slot_at};
+ghost use Rattle.directory.specs.Searches.{lowest_of};
 ghost use Rattle.directory.specs.Slots.{number_is};
 ghost use Rattle.station.specs.Finds.{slot_found, found_in};
 
@@ -17,22 +19,17 @@ pub struct Found {
 pub(crate) fn find_slot(directory: &Directory, number: u16) -> Result<Found, Refusal>
     ensures { result ≡ found_in directory.now number }
 {
-    for i in 0..SLOTS {
-        let slot = directory.slot(i);
-        if is_numbered(slot, number) {
-            return answer_at(i, slot);
-        }
+    match first_numbered(directory, number) {
+        Some(i) => answer_at(i, directory.slot(i)),
+        None => Err(Refusal::at(Reason::ServiceAbsent, 0)),
     }
-    Err(Refusal::at(Reason::ServiceAbsent, 0))
 }
 
-fn is_numbered(slot: Option<Slot>, number: u16) -> bool
-    ensures { result ≡ number_is number slot }
+#[tactic(auto, unfolding(directory::specs::Searches::lowest_of))]
+fn first_numbered(directory: &Directory, number: u16) -> Option<u8>
+    ensures { result ≡ lowest_of (λ i. number_is number (slot_at directory.now.services.bytes i)) 11 }
 {
-    match slot {
-        Some(slot) => slot.number == number,
-        None => false,
-    }
+    (0..SLOTS).find(|i| directory.slot(*i).is_some_and(|slot| slot.number == number))
 }
 
 fn answer_at(i: u8, slot: Option<Slot>) -> Result<Found, Refusal>

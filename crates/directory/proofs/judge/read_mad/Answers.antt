@@ -20,6 +20,6 @@ pub returns : goal.returns
 returns g c =
     let k = g.C.Card in
     let p = c.args.profile in
-    taken_then k.blocks k.present k.steady (trailer_look p) (λ b _. sealed_look MadChecksum (mad_of p).run.start.0 (mad_of p).run.length b) c.in_ok-read_trailer.field-0
+    taken_then k (trailer_look p) (λ b _. sealed_look MadChecksum (mad_of p).run.start.0 (mad_of p).run.length b) c.in_ok-read_trailer.field-0
     c.in_ok-read_trailer.ensures refl
-    (subst (λ m. Taken k.blocks k.present k.steady (sealed_look MadChecksum m.run.start.0 m.run.length) c.read_trailer.new.card c.read_sealed.new.card c.read_sealed.result) c.mad.ensures c.read_sealed.ensures)
+    (subst (λ m. Taken k (sealed_look MadChecksum m.run.start.0 m.run.length) c.read_trailer.new.card c.read_sealed.new.card c.read_sealed.result) c.mad.ensures c.read_sealed.ensures)

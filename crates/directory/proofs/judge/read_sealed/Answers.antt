@@ -1,15 +1,18 @@
-use Rattle.std.proofs.Common.{sym}
+use Rattle.std.proofs.Common.{◌-◌, ◌*◌, take, drop, sym, ap, ◌∙◌}
+use Rattle.layout.specs.Refusals.{refusal}
+use Rattle.directory.specs.Seals.{sealed}
 use Rattle.directory.proofs.SealedReads.{unsealed, is_sealed_lem}
 use Rattle.directory.proofs.judge.read_sealed.Goals as goal
 
 pub returns-then-not-is_sealed : goal.returns-then-not-is_sealed
 returns-then-not-is_sealed g c =
-    let k = g.C.Card in
-    unsealed k.blocks k.present k.steady k.full c.args.run.start.0 c.args.run.length c.requires.run c.requires.few c.args.card.now c.read_run.new.card c.read_run.new.buffer
-    c.in_ok-read_run.ensures c.args.reason c.at.result c.at.ensures (sym c.if-not-is_sealed.ensures)
+    let after = c.read_run.new.buffer in
+    unsealed g.C.Card c.args.run.start.0 c.args.run.length c.requires.run c.requires.few c.args.card.now c.read_run.new.card after
+    c.in_ok-read_run.ensures c.args.reason c.at.result (c.at.ensures ∙ ap (refusal c.args.reason) c.from-then-not-is_sealed.ensures)
+    (ap (λ n. sealed (take (16 * n - 0) (drop 0 after))) (sym c.from.ensures) ∙ sym c.if-not-is_sealed.ensures)
 
 pub returns : goal.returns
 returns g c =
-    let k = g.C.Card in
-    is_sealed_lem k.blocks k.present k.steady k.full c.args.run.start.0 c.args.run.length c.requires.run c.requires.few c.args.card.now c.read_run.new.card c.read_run.new.buffer
-    c.in_ok-read_run.ensures c.args.reason (sym c.if-not-is_sealed.ensures)
+    let after = c.read_run.new.buffer in
+    is_sealed_lem g.C.Card c.args.run.start.0 c.args.run.length c.requires.run c.requires.few c.args.card.now c.read_run.new.card after
+    c.in_ok-read_run.ensures c.args.reason (ap (λ n. sealed (take (16 * n - 0) (drop 0 after))) (sym c.from.ensures) ∙ sym c.if-not-is_sealed.ensures)

@@ -5,13 +5,13 @@ use Rattle.full_listing.proofs.Stills.{still_none, still_then, same_text, lines_
 use Rattle.full_listing.proofs.services.slot_lines.Goals as goal
 
 pub loop-i-init : goal.loop-i-init
-loop-i-init g c = let k = g.C.Card in (still_none k.blocks k.steady c.args.station.now, λ s. c.new-text.ensures.bytes ∙ sym (lines_none _ _ _))
+loop-i-init g c = let k = g.C.Card in (still_none k c.args.station.now, λ s. c.new-text.ensures.bytes ∙ sym (lines_none _ _ _))
 
 pub returns-in_err-line : goal.returns-in_err-line
 returns-in_err-line g c =
     let k = g.C.Card in
     record {
-      still = still_then k.blocks k.steady c.loop-i.invariant.0 c.slot_text.ensures.still;
+      still = still_then k c.loop-i.invariant.0 c.slot_text.ensures.still;
       written = λ s. IfOk-from_err c.from_residual.result _ c.from_residual.ensures.0;
     }
 
@@ -19,7 +19,7 @@ pub returns-in_err-push_str : goal.returns-in_err-push_str
 returns-in_err-push_str g c =
     let k = g.C.Card in
     record {
-      still = still_then k.blocks k.steady c.loop-i.invariant.0 c.slot_text.ensures.still;
+      still = still_then k c.loop-i.invariant.0 c.slot_text.ensures.still;
       written = λ s. IfOk-from_err c.from_residual-in_err-push_str.result _ c.from_residual-in_err-push_str.ensures.0;
     }
 
@@ -31,10 +31,10 @@ loop-i-preserved g c =
     let i = c.loop-i.i in
     let p = c.args.station.now.profile in
     let b = k.blocks c.args.station.now.card in (
-      still_then k.blocks k.steady still c.slot_text.ensures.still,
+      still_then k still c.slot_text.ensures.still,
       λ s.
           let line = c.as_str.ensures.value ∙ c.in_ok-line.ensures.written (still.firm s)
-          ∙ same_text k.blocks k.steady (λ q blocks. slot_line q blocks c.slot.result) still ∙ ap (slot_line p b) c.slot.ensures in
+          ∙ same_text k (λ q blocks. slot_line q blocks c.slot.result) still ∙ ap (slot_line p b) c.slot.ensures in
           c.in_ok-push_str.ensures.bytes ∙ (λ j. c.loop-i.invariant.1 s j ++ line j) ∙ sym (lines_more p b d i),
     )
 

@@ -6,5 +6,5 @@ use Rattle.full_listing.proofs.services.slot_lines.Given as goal
 abbrev pub invariant-loop-i : goal.invariant-loop-i
 invariant-loop-i g l =
     let k = g.C.Card in
-    Still k.blocks k.steady l.initial.station l.station
+    Still k l.initial.station l.station
     × (k.steady l.initial.station.card → string_bytes l.text ≡ lines_of l.initial.station.profile (k.blocks l.initial.station.card) l.directory l.i)

@@ -11,8 +11,8 @@ returns g c =
     let p = c.args.self.now.profile in
     let n = c.args.number in
     record {
-      look = taken_then k.blocks k.present k.steady (λ _. judged (findable n)) (λ b _. then_look (check_look p b) (λ d. judged (found_in d n))) tt
-          (taken_none k.blocks k.present k.steady (findable n) c.args.self.now.card) (sym c.in_ok-judge_findable.ensures)
-          (taken_judge k.blocks k.present k.steady (check_look p) (λ _ d. found_in d n) c.in_ok-directory.directory c.in_ok-directory.ensures.look refl c.find_slot.ensures);
+      look = taken_then k (λ _. judged (findable n)) (λ b _. then_look (check_look p b) (λ d. judged (found_in d n))) tt
+          (taken_none k (findable n) c.args.self.now.card) (sym c.in_ok-judge_number.ensures)
+          (taken_judge k (check_look p) (λ _ d. found_in d n) c.in_ok-directory.directory c.in_ok-directory.ensures.look refl c.find_slot.ensures);
       station = refl;
     }

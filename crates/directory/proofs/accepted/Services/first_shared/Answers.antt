@@ -3,7 +3,7 @@ use Rattle.directory.specs.Entries.{slot_at}
 use Rattle.directory.specs.Searches.{any_of}
 use Rattle.directory.specs.Slots.{share, shares_earlier}
 use Rattle.directory.proofs.Searching.{any_none, any_here, any_past, lowest_none, lowest_here, lowest_past}
-use Rattle.directory.proofs.slots.first_shared.Goals as goal
+use Rattle.directory.proofs.accepted.Services.first_shared.Goals as goal
 
 pub loop-i-init : goal.loop-i-init
 loop-i-init c = lowest_none _
@@ -17,7 +17,7 @@ loop-j-preserved c = (c.loop-j.invariant.0, any_past _ c.loop-j.j c.loop-j.invar
 pub loop-i-preserved : goal.loop-i-preserved
 unfolding shares_earlier
 loop-i-preserved c =
-    let services = c.args.services.now in
+    let services = c.args.self.now.bytes in
     let i = c.loop-i.i in
     let f : ℕ → _ = λ (j : ℕ). share (slot_at services i) (slot_at services j) in
     let all : c.loop-j.j ≡ i = omega arith in
@@ -26,7 +26,7 @@ loop-i-preserved c =
 pub returns-then-do_share : goal.returns-then-do_share
 unfolding shares_earlier
 returns-then-do_share c =
-    let services = c.args.services.now in
+    let services = c.args.self.now.bytes in
     let i = c.loop-i.i in
     sym (lowest_here (shares_earlier services) 11 i c.loop-i-test.true c.loop-j.invariant.0
     (any_here _ i c.loop-j.j c.loop-j-test.true (sym c.if-do_share.ensures)))
