@@ -17,7 +17,7 @@ pub fn perform<C: Card>(
     station: &mut Station<C>,
     call: Call,
 ) -> Result<String, AllocError>
-    ensures { Said C.blocks C.present C.steady call station.old station.new result }
+    ensures { Said C.Card call station.old station.new result }
 {
     match call {
         Call::Find { number } => say_find(heap, station, number),
@@ -31,7 +31,7 @@ fn say_find<C: Card>(
     station: &mut Station<C>,
     number: u16,
 ) -> Result<String, AllocError>
-    ensures { FindSaid C.blocks C.present C.steady number station.old station.new result }
+    ensures { FindSaid C.Card number station.old station.new result }
 {
     let answer = station.find(number);
     find_words(heap, answer)
@@ -44,7 +44,7 @@ fn say_filled<C: Card>(
     number: u16,
     room: u16,
 ) -> Result<String, AllocError>
-    ensures { ReadSaid C.blocks C.present C.steady number (replicate room 0xEE) station.old station.new result }
+    ensures { ReadSaid C.Card number (replicate room 0xEE) station.old station.new result }
 {
     // An array: where there is no memory, a Vec would fail before the read, and the contract tells of a read that was made.
     let mut buffer = [FILL; LONGEST];
@@ -57,14 +57,14 @@ fn say_read<C: Card>(
     number: u16,
     buffer: &mut [u8],
 ) -> Result<String, AllocError>
-    ensures { ReadSaid C.blocks C.present C.steady number buffer.old station.old station.new result }
+    ensures { ReadSaid C.Card number buffer.old station.old station.new result }
 {
     let answer = station.read(number, buffer);
     read_words(heap, answer, buffer)
 }
 
 fn say_lay<C: Card>(heap: Global, station: &mut Station<C>) -> Result<String, AllocError>
-    ensures { LaySaid C.blocks C.present C.steady station.old station.new result }
+    ensures { LaySaid C.Card station.old station.new result }
 {
     let laid = station.lay();
     String::from_str(heap, lay_words(laid))
