@@ -52,7 +52,7 @@ impl Card for ImageCard<'_> {
 pub(crate) fn block_of(image: &Image, block: Block) -> [u8; 16]
     ensures { result ≡ blocks_of image.now block.0 }
 {
-    let start = 16 * block.0 as usize;
+    let start = 16 * usize::from(block.0);
     let mut bytes = [0u8; 16];
     copy_bytes(&mut bytes, &image[start..start + 16]);
     bytes
@@ -63,7 +63,7 @@ pub(crate) fn put_block(image: &mut Image, block: Block, bytes: &[u8; 16])
     ensures put { blocks_of image.new ≡ put (blocks_of image.old) block.0 bytes.now }
     ensures whole { length bytes.now ≡ 16 }
 {
-    let start = 16 * block.0 as usize;
+    let start = 16 * usize::from(block.0);
     copy_bytes(&mut image[start..start + 16], bytes);
 }
 

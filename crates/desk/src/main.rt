@@ -7,41 +7,42 @@ use calls::{is_passed_over, parse_call, perform, record_line, trim};
 use card::{Card, ImageCard, TearCard};
 use full_listing::{Input, input_of};
 use layout::Image;
-use options::{Options, options_of};
+use options::Options;
 use station::Station;
 use std::io::{BufRead, BufReader, Write};
 use std::process::ExitCode;
-use std::{fs, io};
+use std::{env, fs, io};
 use text::{profile_line, refused_line};
 
 const USAGE: &str =
     "usage: desk LETTER IMAGE [--station N] [--last N] [--tear COUNT old|new|HEX32 LAYS] [--save FILE], calls on standard input";
 
 fn main(rt: HostRuntime) -> anyhow::Result<ExitCode> {
-    let Some(options) = options_of(&rt) else {
+    let words: Vec<String> = env::args(&rt)?.skip(1).collect(rt.alloc())?;
+    let Some(options) = Options::from_words(words.as_slice()) else {
         eprintln!(rt; "{USAGE}")?;
         return Ok(ExitCode::FAILURE);
     };
-    let Ok(bytes) = fs::read(&rt, options.path.as_str()) else {
+    let Ok(bytes) = fs::read(&rt, options.path) else {
         let path = options.path;
         eprintln!(rt; "desk: cannot read {path}: expected the path of a card image of 4096 bytes")?;
         return Ok(ExitCode::FAILURE);
     };
-    match input_of(options.letter.as_str(), bytes.as_slice()) {
+    match input_of(options.letter, bytes.as_slice()) {
         Ok(input) => {
-            let image = run(&rt, input, &options)?;
-            save(&rt, &image, &options)?;
+            let image = run(&rt, input, options)?;
+            save(&rt, &image, options)?;
             Ok(ExitCode::SUCCESS)
         }
         Err(refusal) => {
-            print!(rt; "{}", refused_line(rt.alloc(), refusal.number())?)?;
+            print!(rt; "{}", refused_line(rt.alloc(), refusal)?)?;
             Ok(ExitCode::FAILURE)
         }
     }
 }
 
 // Runs the calls on the card in an image, and answers the image as they leave it.
-fn run(rt: &HostRuntime, input: Input, options: &Options) -> anyhow::Result<Image> {
+fn run(rt: &HostRuntime, input: Input, options: Options<'_>) -> anyhow::Result<Image> {
     let Input { profile, mut image } = input;
     print!(rt; "{}", profile_line(rt.alloc(), profile)?)?;
     match options.plan {
@@ -81,11 +82,11 @@ fn answer<C: Card>(rt: &HostRuntime, station: &mut Station<C>, line: &[u8]) -> i
 }
 
 // Writes the image beside the file that is asked for, and puts it in its place when it is whole.
-fn save(rt: &HostRuntime, image: &Image, options: &Options) -> anyhow::Result<()> {
-    if let Some(path) = &options.save {
+fn save(rt: &HostRuntime, image: &Image, options: Options<'_>) -> anyhow::Result<()> {
+    if let Some(path) = options.save {
         let part = format!(in rt.alloc(); "{path}.part")?;
         fs::write(rt, part.as_str(), image.as_slice())?;
-        fs::rename(rt, part.as_str(), path.as_str())?;
+        fs::rename(rt, part.as_str(), path)?;
     }
     Ok(())
 }

@@ -60,34 +60,13 @@ fn service_line(
     slot: Slot,
     reading: Result<Reading, Refusal>,
 ) -> Result<String, AllocError>
-    ensures { IfOk result (λ s. string_bytes s ≡ slot_words slot ++ reading_words reading) }
+    ensures { IfOk result (λ s. string_bytes s ≡ service_line slot reading) }
 {
     let mut line = slot_words(heap, slot)?;
     let words = reading_words(heap, reading)?;
+    line.push_str(" ")?;
     line.push_str(words.as_str())?;
     Ok(line)
-}
-
-fn slot_words(heap: Global, slot: Slot) -> Result<String, AllocError>
-    ensures { IfOk result (λ s. string_bytes s ≡ slot_words slot) }
-{
-    let high = hex_byte(heap, (slot.number / 256) as u8)?;
-    let low = hex_byte(heap, (slot.number % 256) as u8)?;
-    let start = hex_byte(heap, slot.run.start.0)?;
-    let length = hex_byte(heap, slot.run.length)?;
-    words(
-        heap,
-        high.as_str(),
-        low.as_str(),
-        start.as_str(),
-        length.as_str(),
-    )
-}
-
-fn words(heap: Global, high: &str, low: &str, start: &str, end: &str) -> Result<String, AllocError>
-    ensures { IfOk result (λ s. string_bytes s ≡ high.now ++ (low.now ++ (codes " " ++ (start.now ++ (codes " " ++ (end.now ++ codes " ")))))) }
-{
-    format!(in heap; "{high}{low} {start} {end} ")
 }
 
 fn reading_words(heap: Global, reading: Result<Reading, Refusal>) -> Result<String, AllocError>
@@ -95,14 +74,14 @@ fn reading_words(heap: Global, reading: Result<Reading, Refusal>) -> Result<Stri
 {
     match reading {
         Ok(reading) => tag_words(heap, reading),
-        Err(refusal) => refused_line(heap, refusal.number()),
+        Err(refusal) => refused_line(heap, refusal),
     }
 }
 
+#[tactic(auto, using(text::proofs::Written::hex_byte_written))]
 fn tag_words(heap: Global, reading: Reading) -> Result<String, AllocError>
     ensures { IfOk result (λ s. string_bytes s ≡ reading_words (Ok reading)) }
 {
-    let tag = hex_byte(heap, reading.tag)?;
-    let objects = reading.objects;
-    format!(in heap; "{tag} {objects}\n")
+    let Reading { tag, objects, .. } = reading;
+    format!(in heap; "{tag:02X} {objects}\n")
 }

@@ -1,5 +1,5 @@
 -- The record that the lister prints of a card image. Assumes nothing.
-use Rattle.std.specs.Prelude.{ℕ, zero, suc, ◌+◌, ◌/◌, ◌%◌, Bool, false, cond, List, [], ◌∷◌, ◌++◌, is_ok, Some, None, Ok, Err, codes, decimal, Option, nat_lt}
+use Rattle.std.specs.Prelude.{ℕ, zero, suc, Bool, false, List, [], ◌++◌, is_ok, Some, None, Ok, Err, codes, Option}
 use Rattle.std.specs.Option.{ok_or}
 use Rattle.layout.specs.Images.{image_of}
 use Rattle.layout.specs.Profiles.{letter_of, profile_of}
@@ -11,6 +11,7 @@ use Rattle.directory.specs.Entries.{slot_at}
 use Rattle.directory.specs.Slots.{free_blocks}
 use Rattle.directory.specs.declared.accepted.Directory.{Directory}
 use Rattle.directory.specs.declared.entries.Slot.{Slot}
+use Rattle.text.specs.Lines.{profile_line, refused_line, free_line, slot_words}
 use Rattle.listing.specs.declared.Listing.{Listing}
 
 -- the size of the image is judged first, then the letter, then the card
@@ -24,18 +25,9 @@ abbrev pub accepted : Answer Listing → Bool
 accepted (Ok l) = is_ok l.verdict
 accepted (Err r) = false
 
--- a digit of a hexadecimal number, in capitals
-abbrev pub hex_digit : ℕ → ℕ
-hex_digit n = cond (nat_lt n 10) (48 + n) (55 + n)
-
--- a byte as two of them
-abbrev pub hex_byte : ℕ → List ℕ
-hex_byte b = hex_digit (b / 16) ∷ hex_digit (b % 16) ∷ []
-
 -- `1234 0C 01`: number, start and length
 unfoldable pub slot_line : Slot → List ℕ
-slot_line s =
-    hex_byte (s.number / 256) ++ (hex_byte (s.number % 256) ++ (codes " " ++ (hex_byte s.run.start.0 ++ (codes " " ++ (hex_byte s.run.length ++ codes "\n")))))
+slot_line s = slot_words s ++ codes "\n"
 
 -- a line for a used slot
 abbrev pub slot_lines : Option Slot → List ℕ
@@ -46,18 +38,6 @@ slot_lines (Some s) = slot_line s
 unfoldable pub lines_of : List ℕ → ℕ → List ℕ
 lines_of services zero = []
 lines_of services (suc n) = lines_of services n ++ slot_lines (slot_at services n)
-
--- `free 38`, in decimal
-abbrev pub free_line : ℕ → List ℕ
-free_line n = codes "free " ++ (decimal n ++ codes "\n")
-
--- `refused 4`, in decimal
-abbrev pub refused_line : ℕ → List ℕ
-refused_line n = codes "refused " ++ (decimal n ++ codes "\n")
-
--- `profile A`
-abbrev pub profile_line : List ℕ → List ℕ
-profile_line letter = codes "profile " ++ (letter ++ codes "\n")
 
 -- what is said of a card: the used slots and how many blocks are free, or why it is refused
 abbrev pub verdict_lines : Answer Directory → List ℕ

@@ -1,16 +1,18 @@
 // What the lister says of a card image: judged as a value, and written as text.
 #![tactic(auto)]
 
-ghost use Rattle.std.specs.Prelude.{◌≡◌, ◌<◌, [], ◌∷◌, ◌++◌, IfOk, string_bytes, codes};
+ghost use Rattle.std.specs.Prelude.{◌≡◌, ◌++◌, IfOk, string_bytes};
 ghost use Rattle.card.specs.Blocks.{blocks_of};
 ghost use Rattle.directory.specs.Checks.{verdict as verdict_of};
 ghost use Rattle.directory.specs.Slots.{free_blocks};
-ghost use Rattle.listing.specs.Records.{listed, accepted, hex_digit, hex_byte, slot_line, slot_lines, lines_of, free_line, profile_line, refused_line, verdict_lines, card_record, record_of};
+ghost use Rattle.listing.specs.Records.{listed, accepted, slot_line, slot_lines, lines_of, verdict_lines, card_record, record_of};
+ghost use Rattle.text.specs.Lines.{free_line};
 
 use card::ImageCard;
 use directory::{Directory, SLOTS, Slot, check_card};
 use layout::{Image, Profile, Refusal, image_of};
 use std::alloc::{AllocError, Global};
+use text::{free_line, profile_line, refused_line, slot_words};
 
 // A card of a profile, and its directories or why it is refused.
 #[derive(Clone, Copy)]
@@ -53,7 +55,7 @@ pub fn record_of(heap: Global, listing: &Result<Listing, Refusal>) -> Result<Str
 {
     match listing {
         Ok(card) => card_record(heap, card),
-        Err(refusal) => refused_line(heap, refusal.number()),
+        Err(refusal) => refused_line(heap, *refusal),
     }
 }
 
@@ -61,23 +63,27 @@ pub fn record_of(heap: Global, listing: &Result<Listing, Refusal>) -> Result<Str
 fn card_record(heap: Global, card: &Listing) -> Result<String, AllocError>
     ensures { IfOk result (λ s. string_bytes s ≡ card_record card.now) }
 {
-    let mut text = profile_line(heap, card.profile.letter())?;
-    match card.verdict {
-        Ok(directory) => {
-            let lines = directory_lines(heap, &directory)?;
-            text.push_str(lines.as_str())?;
-        }
-        Err(refusal) => {
-            let line = refused_line(heap, refusal.number())?;
-            text.push_str(line.as_str())?;
-        }
-    }
+    let mut text = profile_line(heap, card.profile)?;
+    let lines = verdict_lines(heap, &card.verdict)?;
+    text.push_str(lines.as_str())?;
     Ok(text)
+}
+
+fn verdict_lines(
+    heap: Global,
+    verdict: &Result<Directory, Refusal>,
+) -> Result<String, AllocError>
+    ensures { IfOk result (λ s. string_bytes s ≡ verdict_lines verdict.now) }
+{
+    match verdict {
+        Ok(directory) => directory_lines(heap, directory),
+        Err(refusal) => refused_line(heap, *refusal),
+    }
 }
 
 // A line for each used slot, and then how many service blocks are free.
 fn directory_lines(heap: Global, directory: &Directory) -> Result<String, AllocError>
-    ensures { IfOk result (λ s. string_bytes s ≡ lines_of directory.now.services 11 ++ free_line (free_blocks directory.now)) }
+    ensures { IfOk result (λ s. string_bytes s ≡ lines_of directory.now.services.bytes 11 ++ free_line (free_blocks directory.now)) }
 {
     let mut text = slot_lines(heap, directory)?;
     let free = free_line(heap, directory.count_free())?;
@@ -86,7 +92,7 @@ fn directory_lines(heap: Global, directory: &Directory) -> Result<String, AllocE
 }
 
 fn slot_lines(heap: Global, directory: &Directory) -> Result<String, AllocError>
-    ensures { IfOk result (λ s. string_bytes s ≡ lines_of directory.now.services 11) }
+    ensures { IfOk result (λ s. string_bytes s ≡ lines_of directory.now.services.bytes 11) }
 {
     let mut text = String::new(heap);
     for i in 0..SLOTS {
@@ -96,6 +102,7 @@ fn slot_lines(heap: Global, directory: &Directory) -> Result<String, AllocError>
     Ok(text)
 }
 
+// The line of a slot, or nothing if it is unused.
 fn slot_text(heap: Global, slot: Option<Slot>) -> Result<String, AllocError>
     ensures { IfOk result (λ s. string_bytes s ≡ slot_lines slot) }
 {
@@ -105,66 +112,13 @@ fn slot_text(heap: Global, slot: Option<Slot>) -> Result<String, AllocError>
     }
 }
 
+#[tactic(auto, unfolding(crate::specs::Records::slot_line))]
 fn slot_line(heap: Global, slot: Slot) -> Result<String, AllocError>
     ensures { IfOk result (λ s. string_bytes s ≡ slot_line slot) }
 {
-    let high = hex_byte(heap, (slot.number / 256) as u8)?;
-    let low = hex_byte(heap, (slot.number % 256) as u8)?;
-    let start = hex_byte(heap, slot.run.start.0)?;
-    let length = hex_byte(heap, slot.run.length)?;
-    words(
-        heap,
-        high.as_str(),
-        low.as_str(),
-        start.as_str(),
-        length.as_str(),
-    )
-}
-
-fn words(heap: Global, high: &str, low: &str, start: &str, end: &str) -> Result<String, AllocError>
-    ensures { IfOk result (λ s. string_bytes s ≡ high.now ++ (low.now ++ (codes " " ++ (start.now ++ (codes " " ++ (end.now ++ codes "\n")))))) }
-{
-    format!(in heap; "{high}{low} {start} {end}\n")
-}
-
-// A byte as two hexadecimal digits.
-fn hex_byte(heap: Global, byte: u8) -> Result<String, AllocError>
-    ensures { IfOk result (λ s. string_bytes s ≡ hex_byte byte) }
-{
-    let mut text = String::new(heap);
-    text.push(hex_digit(byte / 16))?;
-    text.push(hex_digit(byte % 16))?;
-    Ok(text)
-}
-
-fn hex_digit(n: u8) -> char
-    requires { n < 16 }
-    ensures value { result ≡ hex_digit n }
-    ensures ascii { result < 128 }
-{
-    if n < 10 {
-        (b'0' + n) as char
-    } else {
-        (b'A' + (n - 10)) as char
-    }
-}
-
-fn free_line(heap: Global, count: u16) -> Result<String, AllocError>
-    ensures { IfOk result (λ s. string_bytes s ≡ free_line count) }
-{
-    format!(in heap; "free {count}\n")
-}
-
-fn profile_line(heap: Global, letter: &str) -> Result<String, AllocError>
-    ensures { IfOk result (λ s. string_bytes s ≡ profile_line letter.now) }
-{
-    format!(in heap; "profile {letter}\n")
-}
-
-fn refused_line(heap: Global, number: u8) -> Result<String, AllocError>
-    ensures { IfOk result (λ s. string_bytes s ≡ refused_line number) }
-{
-    format!(in heap; "refused {number}\n")
+    let mut line = slot_words(heap, slot)?;
+    line.push_str("\n")?;
+    Ok(line)
 }
 
 #[cfg(test)]

@@ -5,16 +5,10 @@ use full_listing::list;
 use std::{env, fs};
 
 fn main(rt: HostRuntime) -> anyhow::Result<()> {
-    let mut args = env::args(&rt)?;
-    let _program = args.next();
-    let mut letter: Option<String> = None;
-    for word in args {
-        match letter {
-            Some(first) => {
-                print_card(&rt, first.as_str(), word.as_str())?;
-                letter = None;
-            }
-            None => letter = Some(word),
+    let words: Vec<String> = env::args(&rt)?.skip(1).collect(rt.alloc())?;
+    for card in words.as_slice().chunks_exact(2) {
+        if let [letter, path] = card {
+            print_card(&rt, letter.as_str(), path.as_str())?;
         }
     }
     Ok(())

@@ -14,7 +14,7 @@ pub(crate) const NOT_READABLE: [u16; 2] = [0x0000, 0x9999];
 pub(crate) fn judge_number(number: u16, excepted: &[u16]) -> Result<(), Refusal>
     ensures { result ≡ number_judged excepted.now number }
 {
-    if excepted.iter().any(|n| *n == number) {
+    if excepted.contains(&number) {
         return Err(Refusal::at(Reason::ServiceNumber, 0));
     }
     Ok(())

@@ -5,4 +5,4 @@ pub mod hexadecimal;
 pub mod lines;
 
 pub use hexadecimal::{hex_byte, hex_bytes};
-pub use lines::{profile_line, refused_line};
+pub use lines::{free_line, profile_line, refused_line, slot_words};
