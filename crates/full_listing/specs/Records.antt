@@ -15,7 +15,7 @@ use Rattle.directory.specs.declared.entries.Slot.{Slot}
 use Rattle.station.specs.Reads.{read_look}
 use Rattle.station.specs.declared.frame.Reading.{Reading}
 use Rattle.text.specs.Hex.{hex_byte}
-use Rattle.text.specs.Lines.{profile_line, refused_line}
+use Rattle.text.specs.Lines.{profile_line, refused_line, free_line, slot_words}
 use Rattle.full_listing.specs.declared.input.Input.{Input}
 
 -- the size of the image is judged first, then the letter
@@ -23,15 +23,14 @@ abbrev pub input_of : List ℕ → List ℕ → Answer Input
 input_of letter bytes =
     then (image_of bytes) (λ image. then (ok_or (profile_of letter) (refusal ProfileLetter 0)) (λ p. Ok (record { profile = p; image = image })))
 
--- `1234 0C 01 `: number, start and length
-unfoldable pub slot_words : Slot → List ℕ
-slot_words s =
-    hex_byte (s.number / 256) ++ (hex_byte (s.number % 256) ++ (codes " " ++ (hex_byte s.run.start.0 ++ (codes " " ++ (hex_byte s.run.length ++ codes " ")))))
-
 -- `E0 1`, the outer tag and how many objects there are; or why the service cannot be read
 abbrev pub reading_words : Answer Reading → List ℕ
 reading_words (Ok r) = hex_byte r.tag ++ (codes " " ++ (decimal r.objects ++ codes "\n"))
 reading_words (Err e) = refused_line (number_of e.reason)
+
+-- `1234 0C 01 E0 1`, or `1234 0C 01 refused 14`
+abbrev pub service_line : Slot → Answer Reading → List ℕ
+service_line s r = slot_words s ++ (codes " " ++ reading_words r)
 
 -- what a station that stays answers to the reading of a service, into a buffer that holds any run
 abbrev pub reading_of : Profile → Blocks → ℕ → Answer Reading
@@ -40,16 +39,12 @@ reading_of p blocks number = (read_look p number 4096 blocks).answer
 -- the line of a slot; none if it is unused
 abbrev pub slot_line : Profile → Blocks → Option Slot → List ℕ
 slot_line p blocks None = []
-slot_line p blocks (Some s) = slot_words s ++ reading_words (reading_of p blocks s.number)
+slot_line p blocks (Some s) = service_line s (reading_of p blocks s.number)
 
 -- the lines of the first n slots, in order
 unfoldable pub lines_of : Profile → Blocks → Directory → ℕ → List ℕ
 lines_of p blocks d zero = []
 lines_of p blocks d (suc n) = lines_of p blocks d n ++ slot_line p blocks (slot_at d.services.bytes n)
-
--- `free 38`, in decimal
-abbrev pub free_line : ℕ → List ℕ
-free_line n = codes "free " ++ (decimal n ++ codes "\n")
 
 -- what is said of a card: the used slots and how many blocks are free, or why it is refused
 abbrev pub verdict_lines : Profile → Blocks → Answer Directory → List ℕ

@@ -2,8 +2,9 @@
 ghost use Rattle.std.specs.Prelude.{◌≡◌, ◌++◌, is_ok, IfOk, string_bytes};
 ghost use Rattle.directory.specs.Checks.{verdict as verdict_of};
 ghost use Rattle.directory.specs.Slots.{free_blocks};
-ghost use Rattle.full_listing.specs.Records.{lines_of, free_line, verdict_lines, card_record};
+ghost use Rattle.full_listing.specs.Records.{lines_of, verdict_lines, card_record};
 ghost use Rattle.full_listing.specs.Steadily.{Wrote};
+ghost use Rattle.text.specs.Lines.{free_line};
 
 use crate::images::Listing;
 use crate::services::slot_lines;
@@ -12,7 +13,7 @@ use directory::{Directory, check_card};
 use layout::Refusal;
 use station::Station;
 use std::alloc::{AllocError, Global};
-use text::{profile_line, refused_line};
+use text::{free_line, profile_line, refused_line};
 
 // What is said of the card on a station, if it does not leave.
 pub(crate) fn card_listing<C: Card>(
@@ -40,7 +41,7 @@ fn verdict_lines<C: Card>(
 {
     match verdict {
         Ok(directory) => directory_lines(heap, station, &directory),
-        Err(refusal) => refused_line(heap, refusal.number()),
+        Err(refusal) => refused_line(heap, refusal),
     }
 }
 
@@ -56,10 +57,4 @@ fn directory_lines<C: Card>(
     let free = free_line(heap, directory.count_free())?;
     text.push_str(free.as_str())?;
     Ok(text)
-}
-
-fn free_line(heap: Global, count: u16) -> Result<String, AllocError>
-    ensures { IfOk result (λ s. string_bytes s ≡ free_line count) }
-{
-    format!(in heap; "free {count}\n")
 }

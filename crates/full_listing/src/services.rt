@@ -1,6 +1,6 @@
 // The lines of a card's services.
-ghost use Rattle.std.specs.Prelude.{◌≡◌, ◌++◌, IfOk, Ok, string_bytes, codes};
-ghost use Rattle.full_listing.specs.Records.{slot_words, reading_words, slot_line, lines_of};
+ghost use Rattle.std.specs.Prelude.{◌≡◌, IfOk, Ok, string_bytes};
+ghost use Rattle.full_listing.specs.Records.{service_line, reading_words, slot_line, lines_of};
 ghost use Rattle.full_listing.specs.Steadily.{Answered, Wrote};
 
 use card::Card;
@@ -8,7 +8,7 @@ use directory::{Directory, SLOTS, Slot};
 use layout::Refusal;
 use station::{Reading, Station};
 use std::alloc::{AllocError, Global};
-use text::{hex_byte, refused_line};
+use text::{refused_line, slot_words};
 
 // How many bytes a buffer has that holds any run.
 const ANY_RUN: usize = 4096;

@@ -69,10 +69,7 @@ fn card_record(heap: Global, card: &Listing) -> Result<String, AllocError>
     Ok(text)
 }
 
-fn verdict_lines(
-    heap: Global,
-    verdict: &Result<Directory, Refusal>,
-) -> Result<String, AllocError>
+fn verdict_lines(heap: Global, verdict: &Result<Directory, Refusal>) -> Result<String, AllocError>
     ensures { IfOk result (λ s. string_bytes s ≡ verdict_lines verdict.now) }
 {
     match verdict {

@@ -14,4 +14,4 @@ loop-i-init c = c.new-text.ensures.bytes
 pub loop-i-preserved : goal.loop-i-preserved
 loop-i-preserved c =
     let line = c.as_str.ensures.value ∙ c.in_ok-line.ensures ∙ ap slot_lines c.slot.ensures in
-    c.in_ok-push_str.ensures.bytes ∙ (λ j. c.loop-i.invariant j ++ line j) ∙ sym (lines_more c.args.directory.now.services c.loop-i.i)
+    c.in_ok-push_str.ensures.bytes ∙ (λ j. c.loop-i.invariant j ++ line j) ∙ sym (lines_more c.args.directory.now.services.bytes c.loop-i.i)

@@ -3,4 +3,4 @@ use Rattle.listing.specs.Records.{lines_of}
 use Rattle.listing.proofs.slot_lines.Given as goal
 
 abbrev pub invariant-loop-i : goal.invariant-loop-i
-invariant-loop-i l = string_bytes l.text ≡ lines_of l.directory.services l.i
+invariant-loop-i l = string_bytes l.text ≡ lines_of l.directory.services.bytes l.i
