@@ -2,12 +2,12 @@
 use Rattle.std.proofs.Common.{◌≡◌, ℕ, ◌+◌, ◌*◌, ◌<◌, ◌≤◌, Bool, true, false, cond, ◌&&◌, eqb, leb, ◌⊎◌, List, [], ◌∷◌, ◌++◌, length, get_or, take, drop, replicate, Some, None, Ok, Err, Option, sym, refl, ap, ◌∙◌, subst, inl, inr, ⊎_elim, append_assoc, add_assoc, arith, lit<, length-append, length-drop}
 use Rattle.std.proofs.lemmas.List.{drop_more, take_at}
 use Rattle.std.proofs.lemmas.Bool.{cond-true, cond-false, lt-leb, le-leb, leb-true, leb-false, eqb-true, eq-eqb, and_from, and_parts, or_left, or_right, or_cases}
-use Rattle.std.specs.List.{between}
+use Rattle.std.specs.List.{between, position}
 use Rattle.layout.specs.Crc.{crc16}
 use Rattle.layout.specs.Refusals.{Answer, then, refuse}
 use Rattle.layout.specs.declared.refusals.Reason.TheVariants.{DataFrame, DataChecksum}
 use Rattle.layout.proofs.Answered.{then_ok}
-use Rattle.service.specs.Frames.{Held, outer, content_at, header_of, marked, sum_right, end_judged, used_from, padding_judged, frame_in, frame_of}
+use Rattle.service.specs.Frames.{Held, outer, content_at, header_of, marked, sum_right, end_judged, used, none_used, padding_judged, frame_in, frame_of}
 use Rattle.service.specs.Grammar.{covered}
 use Rattle.service.specs.Laws.{Holds, FrameExact}
 use Rattle.service.specs.Lengths.{LengthIs, length_at}
@@ -98,7 +98,7 @@ frame_complete run f h =
     let ended : end_judged run end ≡ Ok tt = cond-true _ _ _ mark ∙ cond-true _ _ _ sum in
     let objects : counted (objects_of (between f.start end run)) ≡ Ok f.objects =
     ap counted (ap objects_of p.content ∙ (content_exact f.content).complete h.objects h.content) ∙ ap (λ n. Ok n) (sym h.count) in
-    let padding : padding_judged run (end + 4) ≡ Ok tt = ap (λ ys. used_from ys (end + 4)) p.rest ∙ unused_complete w.padding (end + 4) in
+    let padding : padding_judged run (end + 4) ≡ Ok tt = ap (λ ys. none_used (end + 4) (position used ys)) p.rest ∙ unused_complete w.padding (end + 4) in
     ap (λ r. then r (frame_in run)) header
     ∙ (λ i. then (ended i) (λ _. then (objects i) (λ n. then (padding i) (λ _. Ok (record { tag = f.tag; start = f.start; content = p.content i; objects = n })))))
 

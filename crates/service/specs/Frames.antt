@@ -1,6 +1,6 @@
 -- The frame of service data: how a run is judged, and what is written into one. Assumes nothing.
-use Rattle.std.specs.Prelude.{◌≡◌, ℕ, ◌+◌, ◌-◌, ◌*◌, ◌/◌, ◌%◌, ◌≤◌, Bool, cond, ◌&&◌, ◌||◌, List, [], ◌∷◌, ◌++◌, length, take, drop, replicate, Some, None, Ok, Err, Option, ◌==◌, nat_le, slice_index}
-use Rattle.std.specs.List.{between}
+use Rattle.std.specs.Prelude.{◌≡◌, ℕ, ◌+◌, ◌-◌, ◌*◌, ◌/◌, ◌%◌, ◌≤◌, Bool, cond, not, ◌&&◌, ◌||◌, List, [], ◌∷◌, ◌++◌, length, take, drop, replicate, Some, None, Ok, Err, Option, ◌==◌, nat_le, slice_index}
+use Rattle.std.specs.List.{between, position}
 use Rattle.layout.specs.Buffers.{overlaid}
 use Rattle.layout.specs.Crc.{crc16}
 use Rattle.layout.specs.Refusals.{Answer, then, refuse}
@@ -48,14 +48,18 @@ sum_right run end = slice_index run (end + 2) * 256 + slice_index run (end + 3) 
 abbrev pub end_judged : List ℕ → ℕ → Answer (Unit {0})
 end_judged run end = cond (marked run end) (cond (sum_right run end) (Ok tt) (refuse DataChecksum (end + 2))) (refuse DataFrame end)
 
--- the first byte that is not 00 from an offset on
-abbrev pub used_from : List ℕ → ℕ → Answer (Unit {0})
-used_from [] at = Ok tt
-used_from (x ∷ xs) at = cond (x == 0) (used_from xs (at + 1)) (refuse DataPadding at)
+-- a byte that is not 00
+abbrev pub used : ℕ → Bool
+used byte = not (byte == 0)
 
--- what follows the checksum is 00 to the end
+-- none was found from an offset on, or so many places after it
+abbrev pub none_used : ℕ → Option ℕ → Answer (Unit {0})
+none_used from None = Ok tt
+none_used from (Some after) = refuse DataPadding (from + after)
+
+-- what follows the checksum is 00 to the end: no byte there is the first that is not 00
 abbrev pub padding_judged : List ℕ → ℕ → Answer (Unit {0})
-padding_judged run from = used_from (drop from run) from
+padding_judged run from = none_used from (position used (drop from run))
 
 -- the objects of the content, and then the padding
 abbrev pub content_in : List ℕ → Header → Answer Held

@@ -3,7 +3,7 @@ ghost use Rattle.std.specs.Prelude.{◌≡◌, ◌<◌, ◌≤◌, length};
 ghost use Rattle.service.specs.Laws.{Walked, ContentExact};
 ghost use Rattle.service.specs.Objects.{value_at, value_seen, object_at, object_seen, seen, next_object, next_seen, counted, objects_of};
 
-use crate::lengths::length_at;
+use crate::lengths::{Length, length_at};
 use layout::{Reason, Refusal};
 
 // An object with a tag of one byte or of two, the first of them the high one. Its data is a part of the content, and `next` is the offset after it.
@@ -35,49 +35,47 @@ pub struct Value<'a> {
 fn value_at<'a>(content: &'a [u8], at: usize) -> Option<Value<'a>>
     ensures { value_seen result ≡ value_at content.now at }
 {
-    let length = length_at(content, at)?;
-    if length.count == 0 || length.count > content.len() - length.after {
-        return None;
-    }
-    let next = length.after + length.count;
+    let Length { after, count } = length_at(content, at)?;
+    let next = after + count;
+    let (format, data) = content.get(after..next)?.split_first()?;
     Some(Value {
-        format: content[length.after],
-        data: &content[length.after + 1..next],
-        next,
-    })
-}
-
-// The object at an offset; none if no whole object stands there.
-fn object_at<'a>(content: &'a [u8], at: usize) -> Option<Object<'a>>
-    ensures { object_seen result ≡ object_at content.now at }
-{
-    if at >= content.len() || content[at] == 0 {
-        return None;
-    }
-    let first = content[at];
-    if first & 0x1F != 0x1F {
-        let Value { format, data, next } = value_at(content, at + 1)?;
-        return Some(Object::OneByte {
-            tag: first,
-            format,
-            data,
-            next,
-        });
-    }
-    if at + 1 >= content.len() || content[at + 1] >= 0x80 {
-        return None;
-    }
-    let tag = u16::from_be_bytes([first, content[at + 1]]);
-    let Value { format, data, next } = value_at(content, at + 2)?;
-    Some(Object::TwoByte {
-        tag,
-        format,
+        format: *format,
         data,
         next,
     })
 }
 
+// The object at an offset; none if no whole object stands there.
+#[tactic(auto, unfolding(crate::specs::Objects::object_at))]
+fn object_at<'a>(content: &'a [u8], at: usize) -> Option<Object<'a>>
+    ensures { object_seen result ≡ object_at content.now at }
+{
+    match content.get(at..)? {
+        [] | [0, ..] => None,
+        [tag, ..] if *tag & 0x1F != 0x1F => {
+            let Value { format, data, next } = value_at(content, at + 1)?;
+            Some(Object::OneByte {
+                tag: *tag,
+                format,
+                data,
+                next,
+            })
+        }
+        [first, second @ 0..=0x7F, ..] => {
+            let Value { format, data, next } = value_at(content, at + 2)?;
+            Some(Object::TwoByte {
+                tag: u16::from_be_bytes([*first, *second]),
+                format,
+                data,
+                next,
+            })
+        }
+        _ => None,
+    }
+}
+
 // The object at an offset, or none at the end. Refused where no whole object stands.
+#[tactic(auto, using(crate::proofs::Contents::walked))]
 pub fn next_object<'a>(content: &'a [u8], at: usize) -> Result<Option<Object<'a>>, Refusal>
     ensures reads { next_seen result ≡ next_object content.now at }
     ensures walks { Walked content.now }
