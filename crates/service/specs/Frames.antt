@@ -101,8 +101,3 @@ objects_judged (Err wrong) = refuse NewContent wrong.place
 abbrev pub write_judged : ℕ → List ℕ → Answer (Unit {0})
 write_judged tag content =
     cond (outer tag) (cond (nat_le (length content) 255) (objects_judged (counted (objects_of content))) (refuse NewContent 255)) (refuse OuterTag 0)
-
--- more bytes were put behind the first so many of a buffer: whatever those are, the bytes stand behind them, and the rest is as it was
-abbrev pub Behind : List ℕ → ℕ → List ℕ → List ℕ → Type 0
-Behind buffer at more after =
-    (front rest : List ℕ) → buffer ≡ overlaid front rest → at ≡ length front → at + length more ≤ length rest → after ≡ overlaid (front ++ more) rest
