@@ -1,7 +1,6 @@
 -- The frame of service data: how a run is judged, and what is written into one. Assumes nothing.
-use Rattle.std.specs.Prelude.{◌≡◌, ℕ, ◌+◌, ◌-◌, ◌*◌, ◌/◌, ◌%◌, ◌≤◌, Bool, cond, not, ◌&&◌, ◌||◌, List, [], ◌∷◌, ◌++◌, length, take, drop, replicate, Some, None, Ok, Err, Option, ◌==◌, nat_le, slice_index}
+use Rattle.std.specs.Prelude.{ℕ, ◌+◌, ◌-◌, ◌*◌, ◌/◌, ◌%◌, Bool, cond, not, ◌&&◌, ◌||◌, List, [], ◌∷◌, ◌++◌, length, take, drop, replicate, Some, None, Ok, Err, Option, ◌==◌, nat_le, slice_index}
 use Rattle.std.specs.List.{between, position}
-use Rattle.layout.specs.Buffers.{overlaid}
 use Rattle.layout.specs.Crc.{crc16}
 use Rattle.layout.specs.Refusals.{Answer, then, refuse}
 use Rattle.layout.specs.declared.refusals.Reason.TheVariants.{DataFrame, DataChecksum, DataPadding, OuterTag, NewContent}

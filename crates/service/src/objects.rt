@@ -83,10 +83,8 @@ pub fn next_object<'a>(content: &'a [u8], at: usize) -> Result<Option<Object<'a>
     if at == content.len() {
         return Ok(None);
     }
-    match object_at(content, at) {
-        Some(object) => Ok(Some(object)),
-        None => Err(Refusal::at(Reason::DataObject, at)),
-    }
+    let object = object_at(content, at).ok_or(Refusal::at(Reason::DataObject, at))?;
+    Ok(Some(object))
 }
 
 impl Object<'_> {
@@ -95,8 +93,7 @@ impl Object<'_> {
         ensures { result ≡ (seen self.now).next }
     {
         match self {
-            Object::OneByte { next, .. } => *next,
-            Object::TwoByte { next, .. } => *next,
+            Object::OneByte { next, .. } | Object::TwoByte { next, .. } => *next,
         }
     }
 }

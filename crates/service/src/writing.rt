@@ -7,10 +7,10 @@ ghost use Rattle.service.specs.Grammar.{covered};
 ghost use Rattle.service.specs.Laws.{WriteSound};
 ghost use Rattle.service.specs.Lengths.{short_length};
 
-use arrayvec::ArrayVec;
 use crate::blocks::blocks_for;
 use crate::frames::{MARK, is_outer_tag};
 use crate::objects::count_objects;
+use arrayvec::ArrayVec;
 use layout::{Crc16, Reason, Refusal, checksum};
 
 // The most bytes that a written run has: 17 blocks, for a content of 255 bytes.
