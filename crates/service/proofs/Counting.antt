@@ -33,7 +33,7 @@ counted_before : (n : ℕ) (o : Fields) (r : Objects) → counted_from n (before
 counted_before n o (Ok os) = ap (λ k. Ok k) (omega arith)
 counted_before n o (Err at) = refl
 
-module _ (xs : List ℕ) (at n : ℕ) where
+module _ (xs : List ℕ) (at : ℕ) where
   -- what the next object says of where the turn stands
   met : (m : Met) → next_object xs at ≡ Ok (Some m) → (object_at xs at ≡ Some m) × (at ≡ length xs → ⊥)
   met m e = by_test (eqb at (length xs)) refl e
@@ -68,12 +68,25 @@ module _ (xs : List ℕ) (at n : ℕ) where
       by_test true end e = let z : ◌≡◌ {A = ℕ} 0 1 = cc in absurd (omega arith)
       by_test false end e = let p = by_object (object_at xs at) refl e in (p.0, eqb-false _ _ end, p.1)
 
+-- an object that is met ends behind the offset, and within the content
+pub record Nearer (xs : List ℕ) (at next : ℕ) : Type 0 where
+  pub up : at < next
+  pub inside : next ≤ length xs
+
+pub next_met : (xs : List ℕ) (at : ℕ) (m : Met) → next_object xs at ≡ Ok (Some m) → Nearer xs at m.next
+next_met xs at m e = let f = object_sound xs at m (met xs at m e).0 in record { up = f.up; inside = f.inside }
+
+-- and nothing is refused at the end
+pub next_wrong : (xs : List ℕ) (at : ℕ) (r : Refusal) → next_object xs at ≡ Err r → at ≡ length xs → ⊥
+next_wrong xs at r e = (wrong xs at r e).1
+
+module _ (xs : List ℕ) (at n : ℕ) where
   pub progress_done : Progress xs at n → next_object xs at ≡ Ok None → Ok n ≡ counted (objects_of xs)
   progress_done p e = by_turns p.turns p.enough p.left
     where
       by_turns : (turns : ℕ) → length xs < turns + at → counted_from n (objects_from turns xs at) ≡ counted (objects_of xs) → Ok n ≡ counted (objects_of xs)
       by_turns zero enough left = let w = p.within in absurd (omega arith)
-      by_turns (suc turns) enough left = ap (λ k. Ok k) (sym (add-zero n)) ∙ ap (counted_from n) (sym (at_end xs turns at (ended e))) ∙ left
+      by_turns (suc turns) enough left = ap (λ k. Ok k) (sym (add-zero n)) ∙ ap (counted_from n) (sym (at_end xs turns at (ended xs at e))) ∙ left
 
   pub progress_wrong : (r : Refusal) → Progress xs at n → next_object xs at ≡ Err r → Err r ≡ counted (objects_of xs)
   progress_wrong r p e = by_turns p.turns p.enough p.left
@@ -81,25 +94,23 @@ module _ (xs : List ℕ) (at n : ℕ) where
       by_turns : (turns : ℕ) → length xs < turns + at → counted_from n (objects_from turns xs at) ≡ counted (objects_of xs) → Err r ≡ counted (objects_of xs)
       by_turns zero enough left = let w = p.within in absurd (omega arith)
       by_turns (suc turns) enough left =
-          let w = wrong r e in
+          let w = wrong xs at r e in
           w.2 ∙ ap (counted_from n) (sym (at_more xs turns at w.1 ∙ ap (before_rest (objects_from turns xs) at) w.0)) ∙ left
 
-  pub progress_more : (m : Met) → Progress xs at n → next_object xs at ≡ Ok (Some m) → (at < m.next) × Progress xs m.next (n + 1)
+  pub progress_more : (m : Met) → Progress xs at n → next_object xs at ≡ Ok (Some m) → Progress xs m.next (n + 1)
   progress_more m p e = by_turns p.turns p.enough p.left
     where
-      by_turns : (turns : ℕ) → length xs < turns + at → counted_from n (objects_from turns xs at) ≡ counted (objects_of xs) → (at < m.next) × Progress xs m.next (n + 1)
+      by_turns : (turns : ℕ) → length xs < turns + at → counted_from n (objects_from turns xs at) ≡ counted (objects_of xs) → Progress xs m.next (n + 1)
       by_turns zero enough left = let w = p.within in absurd (omega arith)
       by_turns (suc turns) enough left =
-          let w = met m e in
+          let w = met xs at m e in
           let f = object_sound xs at m w.0 in
           let up = f.up in
-          let few = p.few in (
-            up,
-            record {
-              few = omega arith;
-              within = f.inside;
-              turns = turns;
-              enough = omega arith;
-              left = sym (counted_before n m.object (objects_from turns xs m.next)) ∙ ap (counted_from n) (sym (at_more xs turns at w.1 ∙ ap (before_rest (objects_from turns xs) at) w.0)) ∙ left;
-            },
-          )
+          let few = p.few in
+          record {
+            few = omega arith;
+            within = f.inside;
+            turns = turns;
+            enough = omega arith;
+            left = sym (counted_before n m.object (objects_from turns xs m.next)) ∙ ap (counted_from n) (sym (at_more xs turns at w.1 ∙ ap (before_rest (objects_from turns xs) at) w.0)) ∙ left;
+          }

@@ -1,5 +1,6 @@
 // Objects, read one after another from a content that they borrow.
-ghost use Rattle.std.specs.Prelude.{◌≡◌, ◌<◌, ◌≤◌, length};
+ghost use Rattle.std.specs.Prelude.{◌≡◌, ◌-◌, ◌≤◌, length};
+ghost use Rattle.std.specs.Iterator.{at_most};
 ghost use Rattle.service.specs.Laws.{Walked, ContentExact};
 ghost use Rattle.service.specs.Objects.{value_at, value_seen, object_at, object_seen, seen, next_object, next_seen, counted, objects_of};
 
@@ -98,15 +99,49 @@ impl Object<'_> {
     }
 }
 
+// The objects of a content from an offset on. They end after the last, or after the refusal of the first wrong one.
+#[derive(Drop)]
+struct ObjectsFrom<'a> {
+    content: &'a [u8],
+    at: usize,
+    ghost inside: { at ≤ length content.now },
+}
+
+impl<'a> Iterator for ObjectsFrom<'a> {
+    ghost use Rattle.service.specs.Walks.{Gives};
+
+    type Item = Result<Object<'a>, Refusal>;
+
+    ghost next_gives = { Gives };
+
+    ghost remaining = { λ s. at_most (length s.content.now - s.at) };
+
+    #[tactic(auto, using(crate::proofs::Counting::next_met, crate::proofs::Counting::next_wrong))]
+    fn next(&mut self) -> Option<Result<Object<'a>, Refusal>> {
+        match next_object(self.content, self.at) {
+            Ok(None) => None,
+            Ok(Some(object)) => {
+                self.at = object.next();
+                Some(Ok(object))
+            }
+            Err(wrong) => {
+                self.at = self.content.len();
+                Some(Err(wrong))
+            }
+        }
+    }
+}
+
 // How many objects a content has. Refused at the first offset where no whole object stands.
+#[tactic(auto, using(crate::proofs::Contents::content_exact, crate::proofs::Counting::progress_none, crate::proofs::Counting::progress_more, crate::proofs::Counting::progress_done, crate::proofs::Counting::progress_wrong))]
 pub fn count_objects(content: &[u8]) -> Result<usize, Refusal>
     ensures value { result ≡ counted (objects_of content.now) }
     ensures exact { ContentExact content.now }
 {
-    let mut at = 0;
+    let objects = ObjectsFrom { content, at: 0 };
     let mut count = 0;
-    while let Some(object) = next_object(content, at)? {
-        at = object.next();
+    for object in objects {
+        object?;
         count += 1;
     }
     Ok(count)
