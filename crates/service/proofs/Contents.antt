@@ -44,18 +44,18 @@ module _ (xs : List ℕ) where
 
   content_end : (turns at : ℕ) (os : List Fields) → at ≡ length xs → objects_from (suc turns) xs at ≡ Ok os → ContentIs os (drop at xs)
   content_end turns at [] last e = drop_all at xs (omega arith)
-  content_end turns at (o ∷ os) last e = let n = at_end turns at last in let z : ◌≡◌ {A = ℕ} 0 1 = cc in absurd (omega arith)
+  content_end turns at (o ∷ os) last e = let n = at_end turns at last in grind arith
 
   module _ (turns at : ℕ) where
     content_before : (m : Met) (r : Objects) (os : List Fields) → ObjectFound xs at m → before m.object r ≡ Ok os → ((rest : List Fields) → r ≡ Ok rest → ContentIs rest (drop m.next xs)) → ContentIs os (drop at xs)
-    content_before m (Err wrong) os f e on = let z : ◌≡◌ {A = ℕ} 0 1 = cc in absurd (omega arith)
+    content_before m (Err wrong) os f e on = grind arith
     content_before m (Ok rest) os f e on =
         let is : m.object ∷ rest ≡ os = cc in
         subst (λ l. ContentIs l (drop at xs)) is (record { front = f.front; rest = drop m.next xs; first = f.is; others = on rest refl; all = f.there })
 
     content_object : (o : Option Met) (os : List Fields) → object_at xs at ≡ o → before_rest (objects_from turns xs) at o ≡ Ok os
         → ((m : Met) → ObjectFound xs at m → (rest : List Fields) → objects_from turns xs m.next ≡ Ok rest → ContentIs rest (drop m.next xs)) → ContentIs os (drop at xs)
-    content_object None os is e on = let z : ◌≡◌ {A = ℕ} 0 1 = cc in absurd (omega arith)
+    content_object None os is e on = grind arith
     content_object (Some m) os is e on = let f = object_sound xs at m is in content_before m (objects_from turns xs m.next) os f e (on m f)
 
     content_turn : (end : Bool) (os : List Fields) → eqb at (length xs) ≡ end → objects_from (suc turns) xs at ≡ Ok os
@@ -65,7 +65,7 @@ module _ (xs : List ℕ) where
 
   content_sound : (turns at : ℕ) (os : List Fields) → objects_from turns xs at ≡ Ok os → ContentIs os (drop at xs)
   unfolding objects_from
-  content_sound zero at os e = let z : ◌≡◌ {A = ℕ} 0 1 = cc in absurd (omega arith)
+  content_sound zero at os e = grind arith
   content_sound (suc turns) at os e = content_turn turns at (eqb at (length xs)) os refl e (λ m f rest. content_sound turns m.next rest)
 
   object_long : (o : Fields) (front : List ℕ) → ObjectIs o front → 0 < length front

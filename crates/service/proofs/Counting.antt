@@ -39,19 +39,19 @@ module _ (xs : List ℕ) (at : ℕ) where
   met m e = by_test (eqb at (length xs)) refl e
     where
       by_object : (o : Option Met) → object_at xs at ≡ o → or_wrong at o ≡ Ok (Some m) → object_at xs at ≡ Some m
-      by_object None is e = let z : ◌≡◌ {A = ℕ} 0 1 = cc in absurd (omega arith)
+      by_object None is e = grind arith
       by_object (Some k) is e = cc
 
       by_test : (end : Bool) → eqb at (length xs) ≡ end → cond end (Ok None) (or_wrong at (object_at xs at)) ≡ Ok (Some m) → (object_at xs at ≡ Some m) × (at ≡ length xs → ⊥)
-      by_test true end e = let z : ◌≡◌ {A = ℕ} 0 1 = cc in absurd (omega arith)
+      by_test true end e = grind arith
       by_test false end e = (by_object (object_at xs at) refl e, eqb-false _ _ end)
 
   ended : next_object xs at ≡ Ok None → at ≡ length xs
   ended e = by_test (eqb at (length xs)) refl e
     where
       by_object : (o : Option Met) → or_wrong at o ≡ Ok None → at ≡ length xs
-      by_object None e = let z : ◌≡◌ {A = ℕ} 0 1 = cc in absurd (omega arith)
-      by_object (Some k) e = let z : ◌≡◌ {A = ℕ} 0 1 = cc in absurd (omega arith)
+      by_object None e = grind arith
+      by_object (Some k) e = grind arith
 
       by_test : (end : Bool) → eqb at (length xs) ≡ end → cond end (Ok None) (or_wrong at (object_at xs at)) ≡ Ok None → at ≡ length xs
       by_test true end e = eqb-true _ _ end
@@ -62,10 +62,10 @@ module _ (xs : List ℕ) (at : ℕ) where
     where
       by_object : (o : Option Met) → object_at xs at ≡ o → or_wrong at o ≡ Err r → (object_at xs at ≡ None) × (Err r ≡ refuse {X = ℕ} DataObject at)
       by_object None is e = (is, cc)
-      by_object (Some k) is e = let z : ◌≡◌ {A = ℕ} 0 1 = cc in absurd (omega arith)
+      by_object (Some k) is e = grind arith
 
       by_test : (end : Bool) → eqb at (length xs) ≡ end → cond end (Ok None) (or_wrong at (object_at xs at)) ≡ Err r → (object_at xs at ≡ None) × (at ≡ length xs → ⊥) × (Err r ≡ refuse {X = ℕ} DataObject at)
-      by_test true end e = let z : ◌≡◌ {A = ℕ} 0 1 = cc in absurd (omega arith)
+      by_test true end e = grind arith
       by_test false end e = let p = by_object (object_at xs at) refl e in (p.0, eqb-false _ _ end, p.1)
 
 -- an object that is met ends behind the offset, and within the content

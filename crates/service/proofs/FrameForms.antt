@@ -104,7 +104,7 @@ frame_complete run f h =
 
 pub counted_ok : (r : Objects) (n : ℕ) → counted r ≡ Ok n → (os : List Fields) × (r ≡ Ok os) × (n ≡ length os)
 counted_ok (Ok os) n e = (os, refl, cc)
-counted_ok (Err at) n e = let z : ◌≡◌ {A = ℕ} 0 1 = cc in absurd (omega arith)
+counted_ok (Err at) n e = grind arith
 
 -- a header stands at the front
 record HeaderFound (run : List ℕ) (h : Header) : Type 0 where
@@ -121,7 +121,7 @@ header_sound : (run : List ℕ) (h : Header) → header_of run ≡ Ok h → Head
 header_sound run h e = by_tests (leb (length run) 0) (outer (get_or run 0 0)) (length_at run 1) refl refl refl e
   where
     wrong : (r : Answer Header) → r ≡ Ok h → (p : ℕ) → r ≡ refuse DataFrame p → HeaderFound run h
-    wrong r e p is = let z : ◌≡◌ {A = ℕ} 0 1 = cc in absurd (omega arith)
+    wrong r e p is = grind arith
 
     by_tests : (empty out : Bool) (o : Option Length) → leb (length run) 0 ≡ empty → outer (get_or run 0 0) ≡ out → length_at run 1 ≡ o
         → cond empty (refuse DataFrame 0) (cond out (content_at (get_or run 0 0) o) (refuse DataFrame 0)) ≡ Ok h → HeaderFound run h
@@ -152,8 +152,8 @@ end_sound : (run : List ℕ) (end : ℕ) → end_judged run end ≡ Ok tt → En
 end_sound run end e = by_tests (marked run end) (sum_right run end) refl refl e
   where
     by_tests : (mark sum : Bool) → marked run end ≡ mark → sum_right run end ≡ sum → ◌≡◌ {A = Answer (Unit {0})} (cond mark (cond sum (Ok tt) (refuse DataChecksum (end + 2))) (refuse DataFrame end)) (Ok tt) → EndFound run end
-    by_tests false sum m s e = let z : ◌≡◌ {A = ℕ} 0 1 = cc in absurd (omega arith)
-    by_tests true false m s e = let z : ◌≡◌ {A = ℕ} 0 1 = cc in absurd (omega arith)
+    by_tests false sum m s e = grind arith
+    by_tests true false m s e = grind arith
     by_tests true true m s e =
         let tests = and_parts (leb (end + 4) (length run)) (eqb (get_or run end 0) 0xC0 && eqb (get_or run (end + 1) 0) 0x02) m in
         let room : end + 4 ≤ length run = leb-true _ _ tests.0 in

@@ -39,7 +39,7 @@ module _ (xs : List ℕ) (at : ℕ) where
   length_sound l e = by_tests (leb (length xs) at) (leb (get_or xs at 0) 0x7F) (eqb (get_or xs at 0) 0x81) (leb (length xs) (at + 1)) refl refl refl refl e
     where
       none : (None ≡ Some l) → LengthFound l
-      none e = let z : ◌≡◌ {A = ℕ} 0 1 = cc in absurd (omega arith)
+      none e = grind arith
 
       by_tests : (past short long cut : Bool) → leb (length xs) at ≡ past → leb (get_or xs at 0) 0x7F ≡ short → eqb (get_or xs at 0) 0x81 ≡ long → leb (length xs) (at + 1) ≡ cut
           → cond past None (cond short (length_to (at + 1) (get_or xs at 0)) (cond long (cond cut None (length_to (at + 2) (get_or xs (at + 1) 0))) None)) ≡ Some l

@@ -38,13 +38,13 @@ module _ (xs : List ℕ) where
   value_sound at v e = by_length (length_at xs at) refl e
     where
       by_length : (o : Option Length) → length_at xs at ≡ o → value_of xs o ≡ Some v → ValueFound at v
-      by_length None is e = let z : ◌≡◌ {A = ℕ} 0 1 = cc in absurd (omega arith)
+      by_length None is e = grind arith
       by_length (Some l) is e = by_test (eqb l.count 0 || ltb (length xs - l.after) l.count) refl e
         where
           by_test : (wrong : Bool) → (eqb l.count 0 || ltb (length xs - l.after) l.count) ≡ wrong
               → cond wrong None (Some (record { format = get_or xs l.after 0; bytes = between (l.after + 1) (l.after + l.count) xs; next = l.after + l.count })) ≡ Some v
               → ValueFound at v
-          by_test true w e = let z : ◌≡◌ {A = ℕ} 0 1 = cc in absurd (omega arith)
+          by_test true w e = grind arith
           by_test false w e =
               let f = length_sound xs at l is in
               let after = l.after in
@@ -118,7 +118,7 @@ module _ (xs : List ℕ) where
   -- a tag and what its length counts
   module _ (at : ℕ) (tag : Tag) (bytes : List ℕ) (is : TagIs tag bytes) where
     pub found_behind : (m : Met) (o : Option Body) → value_at xs (at + length bytes) ≡ o → drop at xs ≡ bytes ++ drop (at + length bytes) xs → tagged tag o ≡ Some m → ObjectFound at m
-    found_behind m None none there e = let z : ◌≡◌ {A = ℕ} 0 1 = cc in absurd (omega arith)
+    found_behind m None none there e = grind arith
     found_behind m (Some v) some there e =
         let f = value_sound (at + length bytes) v some in
         let is_m : record { object = record { tag = tag; format = v.format; bytes = v.bytes }; next = v.next } ≡ m = cc in
@@ -138,7 +138,7 @@ module _ (xs : List ℕ) where
       by_tests (leb (length xs) at || eqb (get_or xs at 0) 0) (goes_on (get_or xs at 0)) (leb (length xs) (at + 1) || leb 0x80 (get_or xs (at + 1) 0)) refl refl refl e
     where
       none : (None ≡ Some m) → ObjectFound at m
-      none e = let z : ◌≡◌ {A = ℕ} 0 1 = cc in absurd (omega arith)
+      none e = grind arith
 
       by_tests : (wrong on short : Bool) → (leb (length xs) at || eqb (get_or xs at 0) 0) ≡ wrong → goes_on (get_or xs at 0) ≡ on → (leb (length xs) (at + 1) || leb 0x80 (get_or xs (at + 1) 0)) ≡ short
           → cond wrong None (cond on (cond short None (tagged (two (get_or xs at 0 * 256 + get_or xs (at + 1) 0)) (value_at xs (at + 2)))) (tagged (one (get_or xs at 0)) (value_at xs (at + 1)))) ≡ Some m

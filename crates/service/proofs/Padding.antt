@@ -19,7 +19,7 @@ pub unused_sound : (ys : List ℕ) (from : ℕ) → none_used from (position use
 unused_sound ys from e = by_test (ltb (position_or_len used ys) (length ys)) refl e
   where
     by_test : (some : Bool) → ltb (position_or_len used ys) (length ys) ≡ some → none_used from (cond some (Some (position_or_len used ys)) None) ≡ Ok tt → ys ≡ replicate (length ys) 0
-    by_test true t e = let z : ◌≡◌ {A = ℕ} 0 1 = cc in absurd (omega arith)
+    by_test true t e = grind arith
     by_test false t e =
         ext_get_or 0 ys (replicate (length ys) 0) (sym (length-replicate (length ys) 0))
         (λ k h. clear k (omega (arith, ltb-false _ _ t)) ∙ sym (get_or-replicate (length ys) k 0 0 h))

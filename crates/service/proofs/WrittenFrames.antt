@@ -53,9 +53,9 @@ judged_ok tag content e = by_tests (outer tag) (leb (length content) 255) (count
     by_tests : (out short : Bool) (r : Answer ℕ) → outer tag ≡ out → leb (length content) 255 ≡ short → counted (objects_of content) ≡ r
         → ◌≡◌ {A = Answer (Unit {0})} (cond out (cond short (objects_judged r) (refuse NewContent 255)) (refuse OuterTag 0)) (Ok tt)
         → (outer tag ≡ true) × (length content ≤ 255)
-    by_tests false short r o s n e = let z : ◌≡◌ {A = ℕ} 0 1 = cc in absurd (omega arith)
-    by_tests true false r o s n e = let z : ◌≡◌ {A = ℕ} 0 1 = cc in absurd (omega arith)
-    by_tests true true (Err w) o s n e = let z : ◌≡◌ {A = ℕ} 0 1 = cc in absurd (omega arith)
+    by_tests false short r o s n e = grind arith
+    by_tests true false r o s n e = grind arith
+    by_tests true true (Err w) o s n e = grind arith
     by_tests true true (Ok k) o s n e = (o, leb-true _ _ s)
 
 module _ (tag : ℕ) (content : List ℕ) where
