@@ -1,10 +1,9 @@
 -- Counting the objects of a content, one turn after another. Assumes nothing.
-use Rattle.std.proofs.Common.{◌≡◌, ℕ, zero, suc, ◌+◌, ◌<◌, ◌≤◌, Bool, true, false, cond, eqb, List, length, Some, None, Ok, Err, Option, sym, refl, ap, ◌∙◌, add-zero, zero-add, arith}
-use Rattle.std.proofs.lemmas.Bool.{eqb-true, eqb-false}
+use Rattle.std.proofs.Common.{◌≡◌, ℕ, zero, suc, ◌+◌, ◌<◌, ◌≤◌, List, length, Some, None, Ok, Err, sym, refl, ap, ◌∙◌, add-zero, zero-add, arith}
 use Rattle.layout.specs.Refusals.{Answer, refuse}
 use Rattle.layout.specs.declared.refusals.Reason.TheVariants.{DataObject}
 use Rattle.layout.specs.declared.refusals.Refusal.{Refusal}
-use Rattle.service.specs.Objects.{Fields, Met, Objects, object_at, or_wrong, next_object, before, before_rest, objects_from, objects_of, counted}
+use Rattle.service.specs.Objects.{Fields, Met, Objects, object_at, next_object, before, before_rest, objects_from, objects_of, counted}
 use Rattle.service.proofs.Contents.{at_end, at_more}
 use Rattle.service.proofs.ObjectForms.{object_sound}
 
@@ -36,37 +35,13 @@ counted_before n o (Err at) = refl
 module _ (xs : List ℕ) (at : ℕ) where
   -- what the next object says of where the turn stands
   met : (m : Met) → next_object xs at ≡ Ok (Some m) → (object_at xs at ≡ Some m) × (at ≡ length xs → ⊥)
-  met m e = by_test (eqb at (length xs)) refl e
-    where
-      by_object : (o : Option Met) → object_at xs at ≡ o → or_wrong at o ≡ Ok (Some m) → object_at xs at ≡ Some m
-      by_object None is e = grind arith
-      by_object (Some k) is e = cc
-
-      by_test : (end : Bool) → eqb at (length xs) ≡ end → cond end (Ok None) (or_wrong at (object_at xs at)) ≡ Ok (Some m) → (object_at xs at ≡ Some m) × (at ≡ length xs → ⊥)
-      by_test true end e = grind arith
-      by_test false end e = (by_object (object_at xs at) refl e, eqb-false _ _ end)
+  met m e = (grind arith, λ end. grind arith)
 
   ended : next_object xs at ≡ Ok None → at ≡ length xs
-  ended e = by_test (eqb at (length xs)) refl e
-    where
-      by_object : (o : Option Met) → or_wrong at o ≡ Ok None → at ≡ length xs
-      by_object None e = grind arith
-      by_object (Some k) e = grind arith
-
-      by_test : (end : Bool) → eqb at (length xs) ≡ end → cond end (Ok None) (or_wrong at (object_at xs at)) ≡ Ok None → at ≡ length xs
-      by_test true end e = eqb-true _ _ end
-      by_test false end e = by_object (object_at xs at) e
+  ended e = grind arith
 
   wrong : (r : Refusal) → next_object xs at ≡ Err r → (object_at xs at ≡ None) × (at ≡ length xs → ⊥) × (Err r ≡ refuse {X = ℕ} DataObject at)
-  wrong r e = by_test (eqb at (length xs)) refl e
-    where
-      by_object : (o : Option Met) → object_at xs at ≡ o → or_wrong at o ≡ Err r → (object_at xs at ≡ None) × (Err r ≡ refuse {X = ℕ} DataObject at)
-      by_object None is e = (is, cc)
-      by_object (Some k) is e = grind arith
-
-      by_test : (end : Bool) → eqb at (length xs) ≡ end → cond end (Ok None) (or_wrong at (object_at xs at)) ≡ Err r → (object_at xs at ≡ None) × (at ≡ length xs → ⊥) × (Err r ≡ refuse {X = ℕ} DataObject at)
-      by_test true end e = grind arith
-      by_test false end e = let p = by_object (object_at xs at) refl e in (p.0, eqb-false _ _ end, p.1)
+  wrong r e = (grind arith, λ end. grind arith, grind arith)
 
 -- an object that is met ends behind the offset, and within the content
 pub record Nearer (xs : List ℕ) (at next : ℕ) : Type 0 where

@@ -1,5 +1,5 @@
 -- What is written is service data by the layout, and is read back. Assumes nothing.
-use Rattle.std.proofs.Common.{◌≡◌, ℕ, ◌+◌, ◌-◌, ◌*◌, ◌/◌, ◌%◌, ◌<◌, ◌≤◌, Bool, true, false, cond, leb, List, [], ◌∷◌, ◌++◌, length, take, drop, replicate, Ok, Err, sym, refl, ap, ◌∙◌, inl, inr, ⊎_elim, append_assoc, mul_comm, arith, length-append, length-drop}
+use Rattle.std.proofs.Common.{◌≡◌, ℕ, ◌+◌, ◌-◌, ◌*◌, ◌/◌, ◌%◌, ◌<◌, ◌≤◌, true, false, leb, List, [], ◌∷◌, ◌++◌, length, take, drop, replicate, Ok, sym, refl, ap, ◌∙◌, inl, inr, ⊎_elim, append_assoc, mul_comm, arith, length-append, length-drop}
 use native.Mathlib.Nat.{div-add-mod}
 use lib.ListN.{length-replicate}
 use borrow.Rule.Slice.PartMut.{put_mid}
@@ -7,14 +7,12 @@ use Rattle.std.proofs.lemmas.List.{length-take-le}
 use Rattle.std.proofs.lemmas.Bool.{cond-true, cond-false, leb-true, eqb-true, or_cases, cases_Bool}
 use Rattle.layout.specs.Buffers.{overlaid}
 use Rattle.layout.specs.Crc.{crc16}
-use Rattle.layout.specs.Refusals.{Answer, refuse}
-use Rattle.layout.specs.declared.refusals.Reason.TheVariants.{OuterTag, NewContent}
 use Rattle.layout.proofs.Overlaid.{put_behind}
-use Rattle.service.specs.Frames.{outer, header_size, blocks_for, summed, frame_bytes, objects_judged, write_judged}
+use Rattle.service.specs.Frames.{outer, header_size, blocks_for, summed, frame_bytes, write_judged}
 use Rattle.service.specs.Grammar.{covered, RunHolds}
 use Rattle.service.specs.Laws.{Fewest, WriteSound}
 use Rattle.service.specs.Lengths.{LengthIs, short_length}
-use Rattle.service.specs.Objects.{objects_of, counted}
+use Rattle.service.specs.Objects.{objects_of}
 use Rattle.service.proofs.Contents.{content_exact}
 use Rattle.service.proofs.FrameForms.{counted_ok, frame_complete}
 
@@ -25,18 +23,10 @@ short_is n = ⊎_elim
     (cases_Bool (leb n 0x7F))
 
 pub length_short : (n : ℕ) → 1 + length (short_length n) ≡ header_size n
-length_short n = by_test (leb n 0x7F)
-  where
-    by_test : (small : Bool) → 1 + length (cond small (n ∷ []) (0x81 ∷ n ∷ [])) ≡ cond small 2 3
-    by_test true = refl
-    by_test false = refl
+length_short n = grind arith
 
 header_small : (n : ℕ) → header_size n ≤ 3
-header_small n = by_test (leb n 0x7F)
-  where
-    by_test : (small : Bool) → cond small 2 3 ≤ 3
-    by_test true = omega arith
-    by_test false = omega arith
+header_small n = grind arith
 
 pub blocks_fewest : (c : ℕ) → Fewest (header_size c + c + 4) (blocks_for c)
 blocks_fewest c = record { enough = omega arith; needed = omega arith }
@@ -48,15 +38,7 @@ length_covered tag content =
 
 -- what the judgement lets pass
 pub judged_ok : (tag : ℕ) (content : List ℕ) → write_judged tag content ≡ Ok tt → (outer tag ≡ true) × (length content ≤ 255)
-judged_ok tag content e = by_tests (outer tag) (leb (length content) 255) (counted (objects_of content)) refl refl refl e
-  where
-    by_tests : (out short : Bool) (r : Answer ℕ) → outer tag ≡ out → leb (length content) 255 ≡ short → counted (objects_of content) ≡ r
-        → ◌≡◌ {A = Answer (Unit {0})} (cond out (cond short (objects_judged r) (refuse NewContent 255)) (refuse OuterTag 0)) (Ok tt)
-        → (outer tag ≡ true) × (length content ≤ 255)
-    by_tests false short r o s n e = grind arith
-    by_tests true false r o s n e = grind arith
-    by_tests true true (Err w) o s n e = grind arith
-    by_tests true true (Ok k) o s n e = (o, leb-true _ _ s)
+judged_ok tag content e = (grind arith, grind arith)
 
 module _ (tag : ℕ) (content : List ℕ) where
   written_holds : outer tag ≡ true → RunHolds tag (short_length (length content)) content (frame_bytes tag content)
