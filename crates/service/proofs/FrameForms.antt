@@ -70,7 +70,10 @@ places run f h =
     }
 
 pub outer_tag : (tag : ℕ) → (tag ≡ 0xE0) ⊎ (tag ≡ 0x65) → outer tag ≡ true
-outer_tag tag is = ⊎_elim (λ e. or_left _ _ (eq-eqb tag 0xE0 e)) (λ e. or_right _ _ (eq-eqb tag 0x65 e)) is
+outer_tag tag is = grind arith
+
+pub tag_outer : (tag : ℕ) → outer tag ≡ true → (tag ≡ 0xE0) ⊎ (tag ≡ 0x65)
+tag_outer tag is = grind arith
 
 -- a header with its content's end
 abbrev pub header_at : ℕ → ℕ → ℕ → Header
@@ -93,9 +96,9 @@ frame_complete run f h =
     let header : header_of run ≡ Ok (header_at f.tag f.start end) =
     header_complete run f.tag (length f.content) h.size _ p.some p.tag (outer_tag _ w.outer) w.sized p.header
     ∙ ap (λ s. Ok (header_at f.tag s (s + length f.content))) (sym h.start) in
-    let mark : marked run end ≡ true = and_from _ _ (le-leb _ _ p.room) (and_from _ _ (eq-eqb _ _ p.first) (eq-eqb _ _ p.second)) in
-    let sum : sum_right run end ≡ true = eq-eqb _ _ ((λ i. p.high i * 256 + p.low i) ∙ w.sum ∙ ap crc16 (sym p.before)) in
-    let ended : end_judged run end ≡ Ok tt = cond-true _ _ _ mark ∙ cond-true _ _ _ sum in
+    let mark : marked run end ≡ true = grind (arith, p.room, p.first, p.second) in
+    let sum : sum_right run end ≡ true = grind (arith, p.high, p.low, w.sum, p.before) in
+    let ended : end_judged run end ≡ Ok tt = grind (arith, mark, sum) in
     let objects : counted (objects_of (between f.start end run)) ≡ Ok f.objects =
     ap counted (ap objects_of p.content ∙ (content_exact f.content).complete h.objects h.content) ∙ ap (λ n. Ok n) (sym h.count) in
     let padding : padding_judged run (end + 4) ≡ Ok tt = ap (λ ys. none_used (end + 4) (position used ys)) p.rest ∙ unused_complete w.padding (end + 4) in
@@ -133,7 +136,7 @@ header_sound run h e = by_tests (leb (length run) 0) (outer (get_or run 0 0)) (l
         let is : header_at (get_or run 0 0) l.after (l.after + l.count) ≡ h = cc in
         subst (HeaderFound run) is (record {
           size = f.bytes;
-          outer_is = ⊎_elim (λ k. inl (eqb-true _ _ k)) (λ k. inr (eqb-true _ _ k)) (or_cases _ _ u);
+          outer_is = tag_outer _ u;
           count = l.count;
           sized = f.is;
           there = drop_more run 0 0 (leb-false _ _ n) ∙ ap (λ r. get_or run 0 0 ∷ r) f.there;

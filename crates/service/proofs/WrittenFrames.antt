@@ -14,13 +14,10 @@ use Rattle.service.specs.Laws.{Fewest, WriteSound}
 use Rattle.service.specs.Lengths.{LengthIs, short_length}
 use Rattle.service.specs.Objects.{objects_of}
 use Rattle.service.proofs.Contents.{content_exact}
-use Rattle.service.proofs.FrameForms.{counted_ok, frame_complete}
+use Rattle.service.proofs.FrameForms.{counted_ok, frame_complete, tag_outer}
 
 pub short_is : (n : ℕ) → LengthIs n (short_length n)
-short_is n = ⊎_elim
-    (λ (small : leb n 0x7F ≡ true). inl (cond-true _ _ _ small, leb-true n 0x7F small))
-    (λ (large : leb n 0x7F ≡ false). inr (cond-false _ _ _ large))
-    (cases_Bool (leb n 0x7F))
+short_is n = grind arith
 
 pub length_short : (n : ℕ) → 1 + length (short_length n) ≡ header_size n
 length_short n = grind arith
@@ -46,7 +43,7 @@ module _ (tag : ℕ) (content : List ℕ) where
   written_holds is_outer =
       let sum = crc16 (covered tag (short_length (length content)) content) in
       record {
-        outer = ⊎_elim (λ k. inl (eqb-true _ _ k)) (λ k. inr (eqb-true _ _ k)) (or_cases _ _ is_outer);
+        outer = tag_outer _ is_outer;
         sized = short_is (length content);
         high = sum / 256;
         low = sum % 256;
