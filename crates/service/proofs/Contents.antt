@@ -11,11 +11,11 @@ use Rattle.service.proofs.Offsets.{after_front, front_inside}
 module _ (xs : List ℕ) where
   pub at_end : (turns at : ℕ) → at ≡ length xs → objects_from (suc turns) xs at ≡ Ok []
   unfolding objects_from
-  at_end turns at e = cond-true _ _ _ (eq-eqb at (length xs) e)
+  at_end turns at e = grind arith
 
   pub at_more : (turns at : ℕ) → (at ≡ length xs → ⊥) → objects_from (suc turns) xs at ≡ before_rest (objects_from turns xs) at (object_at xs at)
   unfolding objects_from
-  at_more turns at ne = cond-false _ _ _ (ne_eqb at (length xs) ne)
+  at_more turns at ne = grind arith
 
   -- one object before a walk
   walk_before : (at : ℕ) (m : Met) (r : Objects) → next_object xs at ≡ Ok (Some m) → WalkOver xs m.next r → WalkOver xs at (before m.object r)

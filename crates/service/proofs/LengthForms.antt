@@ -13,19 +13,13 @@ module _ (xs : List ℕ) (at : ℕ) where
       short : (bytes ≡ n ∷ []) × (n ≤ 0x7F) → length_at xs at ≡ length_to (at + length bytes) n
       short s =
           let h = here xs at n rest (e ∙ ap (λ b. b ++ rest) s.0) in
-          cond-false _ _ _ (lt-leb _ _ h.inside)
-          ∙ cond-true _ _ _ (ap (λ b. leb b 0x7F) h.byte ∙ le-leb n 0x7F s.1)
-          ∙ (λ i. length_to (at + length (sym s.0 i)) (h.byte i))
+          grind (arith, h.inside, h.byte, s.0, s.1)
 
       long : bytes ≡ 0x81 ∷ n ∷ [] → length_at xs at ≡ length_to (at + length bytes) n
       long s =
           let h = here xs at 0x81 (n ∷ rest) (e ∙ ap (λ b. b ++ rest) s) in
           let k = here xs (at + 1) n rest h.more in
-          cond-false _ _ _ (lt-leb _ _ h.inside)
-          ∙ cond-false _ _ _ (ap (λ b. leb b 0x7F) h.byte)
-          ∙ cond-true _ _ _ (ap (λ b. eqb b 0x81) h.byte)
-          ∙ cond-false _ _ _ (lt-leb _ _ k.inside)
-          ∙ (λ i. length_to (at + length (sym s i)) (k.byte i))
+          grind (arith, h.inside, h.byte, k.inside, k.byte, s)
 
   -- a length stands at the offset
   pub record LengthFound (l : Length) : Type 0 where

@@ -67,15 +67,13 @@ module _ (run after : List ℕ) (f : Held) (h : Holds run f) (d : DifferInOne ru
 
     -- the mark, where it is not altered
     mark : (end_of f ≡ d.place → ⊥) → (end_of f + 1 ≡ d.place → ⊥) → marked after (end_of f) ≡ true
-    mark first second =
-        and_from _ _ (le-leb _ _ (omega (arith, p.room, d.long)))
-        (and_from _ _ (eq-eqb _ _ (same _ first ∙ p.first)) (eq-eqb _ _ (same _ second ∙ p.second)))
+    mark first second = grind (arith, p.room, d.long, same _ first, same _ second, p.first, p.second)
 
     sum_was : get_or run (end_of f + 2) 0 * 256 + get_or run (end_of f + 3) 0 ≡ crc16 (take (end_of f + 2) run)
     sum_was = (λ i. p.high i * 256 + p.low i) ∙ h.layout.sum ∙ ap crc16 (sym p.before)
 
     wrong_sum : marked after (end_of f) ≡ true → sum_right after (end_of f) ≡ false → end_judged after (end_of f) ≡ refuse DataChecksum (end_of f + 2)
-    wrong_sum m s = cond-true _ _ _ m ∙ cond-false _ _ _ s
+    wrong_sum m s = grind arith
 
     -- a byte before the checksum was altered
     sum_covers : Bytes run → Bytes after → d.place < end_of f + 2 → sum_right after (end_of f) ≡ false
