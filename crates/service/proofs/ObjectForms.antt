@@ -22,9 +22,7 @@ module _ (xs : List ℕ) where
       let room : n ≤ length xs - after = omega (arith, length-drop after xs, ap length behind, length-append bytes rest) in
       let part : between (after + 1) (after + n) xs ≡ bytes =
       ap (λ k. between (after + 1) k xs) (omega arith) ∙ front_between xs (after + 1) (length bytes) bytes rest refl h.more in
-      ap (value_of xs) (length_complete xs at n size (format ∷ (bytes ++ rest)) sized e)
-      ∙ cond-false _ _ _ (or_from _ _ (ne_eqb n 0 (λ z. omega arith)) (le-ltb _ _ room))
-      ∙ (λ i. Some (record { format = h.byte i; bytes = part i; next = after + n }))
+      grind (arith, length_complete xs at n size (format ∷ (bytes ++ rest)) sized e, room, h.byte, part)
 
   -- a format byte and data stand behind their length
   pub record ValueFound (at : ℕ) (v : Body) : Type 0 where
@@ -88,10 +86,7 @@ module _ (xs : List ℕ) where
           let h = here xs at t _ (there ∙ ap (λ b. b ++ (is.size ++ (o.format ∷ (o.bytes ++ rest)))) w.all) in
           let v = value_complete (at + 1) o.format is.size o.bytes rest (omega (arith, h.inside)) is.sized h.more in
           let next : at + 1 + length is.size + (length o.bytes + 1) ≡ at + length front = omega (arith, long, ap length w.all) in
-          cond-false _ _ _ (or_from _ _ (lt-leb _ _ h.inside) (ne_eqb _ 0 (λ z. w.used (sym h.byte ∙ z))))
-          ∙ cond-false _ _ _ (ap goes_on h.byte ∙ w.alone)
-          ∙ (λ i. tagged (one (h.byte i)) (v i))
-          ∙ (λ i. Some (record { object = record { tag = is_tag i; format = o.format; bytes = o.bytes }; next = next i }))
+          grind (arith, h.inside, h.byte, w.used, w.alone, v, is_tag, next)
       by_tag (two t) is_tag which =
           let w : TwoBytes t is.tag = subst (λ k. TagIs k is.tag) (sym is_tag) which in
           let h = here xs at w.first _ (there ∙ ap (λ b. b ++ (is.size ++ (o.format ∷ (o.bytes ++ rest)))) w.all) in

@@ -103,15 +103,7 @@ module _ (run after : List ℕ) (f : Held) (h : Holds run f) (d : DifferInOne ru
 
     -- a byte of the mark was altered
     mark_breaks : end_of f ≤ d.place → d.place < end_of f + 2 → end_judged after (end_of f) ≡ refuse DataFrame (end_of f)
-    mark_breaks low high =
-        cond-false _ (cond (sum_right after (end_of f)) (Ok tt) (refuse DataChecksum (end_of f + 2))) _ (and_right (leb (end_of f + 4) (length after)) (eqb (get_or after (end_of f) 0) 0xC0 && eqb (get_or after (end_of f + 1) 0) 0x02) (⊎_elim
-        (λ (first : d.place < end_of f + 1).
-        let at : d.place ≡ end_of f = omega arith in
-        and_left _ (eqb (get_or after (end_of f + 1) 0) 0x02) (ne_eqb _ _ (λ e. d.there (ap (λ k. get_or after k 0) at ∙ e ∙ sym (ap (λ k. get_or run k 0) at ∙ p.first)))))
-        (λ (second : end_of f + 1 ≤ d.place).
-        let at : d.place ≡ end_of f + 1 = omega arith in
-        and_right (eqb (get_or after (end_of f) 0) 0xC0) _ (ne_eqb _ _ (λ e. d.there (ap (λ k. get_or after k 0) at ∙ e ∙ sym (ap (λ k. get_or run k 0) at ∙ p.second)))))
-        (cases_lt d.place (end_of f + 1))))
+    mark_breaks low high = grind (arith, d.there, p.first, p.second, same (end_of f), same (end_of f + 1))
 
     kept : f.start ≤ d.place → header_of after ≡ Ok (header_at f.tag f.start (end_of f))
     kept low =
