@@ -93,14 +93,8 @@ module _ (xs : List ℕ) where
           let k = here xs (at + 1) w.second _ h.more in
           let v = value_complete (at + 2) o.format is.size o.bytes rest (omega (arith, k.inside)) is.sized (ap (λ n. drop n xs) (sym (add_assoc at 1 1)) ∙ k.more) in
           let next : at + 2 + length is.size + (length o.bytes + 1) ≡ at + length front = omega (arith, long, ap length w.all) in
-          cond-false _ _ _ (or_from _ _ (lt-leb _ _ h.inside) (ne_eqb _ 0 (λ z. first_used w.first w.follows (sym h.byte ∙ z))))
-          ∙ cond-true _ _ _ (ap goes_on h.byte ∙ w.follows)
-          ∙ cond-false _ _ _ (or_from _ _ (lt-leb _ _ k.inside) (ap (leb 0x80) k.byte ∙ lt-leb 0x80 _ w.low))
-          ∙ (λ i. tagged (two (h.byte i * 256 + k.byte i)) (v i))
-          ∙ (λ i. Some (record { object = record { tag = (ap two (sym w.value) ∙ is_tag) i; format = o.format; bytes = o.bytes }; next = next i }))
-        where
-          first_used : (b : ℕ) → goes_on b ≡ true → b ≡ 0 → ⊥
-          first_used b f z = false≢true (ap goes_on (sym z) ∙ f)
+          let used : get_or xs at 0 ≡ 0 → ⊥ = λ z. false≢true (ap goes_on (sym z ∙ h.byte) ∙ w.follows) in
+          grind (arith, h.inside, h.byte, used, w.follows, k.inside, k.byte, w.low, w.value, v, is_tag, next)
 
   -- an object stands at the offset
   pub record ObjectFound (at : ℕ) (m : Met) : Type 0 where

@@ -88,18 +88,7 @@ module _ (run after : List ℕ) (f : Held) (h : Holds run f) (d : DifferInOne ru
     sum_itself low high =
         let n = end_of f + 2 in
         let covers : crc16 (take n after) ≡ crc16 (take n run) = ap crc16 (same_take n run after d (omega (arith, p.room)) low) in
-        ne_eqb _ _ (λ e.
-        let level : get_or after (end_of f + 2) 0 * 256 + get_or after (end_of f + 3) 0 ≡ get_or run (end_of f + 2) 0 * 256 + get_or run (end_of f + 3) 0 = e ∙ covers ∙ sym sum_was in
-        ⊎_elim
-        (λ (first : d.place < end_of f + 3).
-        let at : end_of f + 2 ≡ d.place = omega arith in
-        let other = same (end_of f + 3) (λ k. omega arith) in
-        d.there (subst (λ k. get_or after k 0 ≡ get_or run k 0) at (omega arith)))
-        (λ (second : end_of f + 3 ≤ d.place).
-        let at : end_of f + 3 ≡ d.place = omega arith in
-        let other = same (end_of f + 2) (λ k. omega arith) in
-        d.there (subst (λ k. get_or after k 0 ≡ get_or run k 0) at (omega arith)))
-        (cases_lt d.place (end_of f + 3)))
+        grind (arith, d.there, same (end_of f + 2), same (end_of f + 3), covers, sum_was)
 
     -- a byte of the mark was altered
     mark_breaks : end_of f ≤ d.place → d.place < end_of f + 2 → end_judged after (end_of f) ≡ refuse DataFrame (end_of f)
@@ -119,7 +108,7 @@ module _ (run after : List ℕ) (f : Held) (h : Holds run f) (d : DifferInOne ru
         inr (refused_end after _ DataChecksum _ (header (get_or after 0 0) refl is (λ k some small e. omega arith))
         (wrong_sum (mark (λ e. omega arith) (λ e. omega arith)) (sum_covers bx by (omega arith)))))
         (λ (is : outer (get_or after 0 0) ≡ false).
-        inl (ap (λ r. then r (frame_in after)) (cond-false _ _ _ (lt-leb _ 0 some) ∙ cond-false _ _ _ is)))
+        inl (grind (arith, some, is)))
         (cases_Bool (outer (get_or after 0 0)))
 
     altered : Bytes run → Bytes after → Altered f d.place after
