@@ -1,5 +1,5 @@
 -- Counting the objects of a content, one turn after another. Assumes nothing.
-use Rattle.std.proofs.Common.{◌≡◌, ℕ, zero, suc, ◌+◌, ◌<◌, ◌≤◌, List, length, Some, None, Ok, Err, sym, refl, ap, ◌∙◌, add-zero, zero-add, arith}
+use Rattle.std.proofs.Common.{◌≡◌, ℕ, zero, suc, ◌+◌, ◌<◌, ◌≤◌, List, length, Some, None, Ok, Err, sym, refl, ap, ◌∙◌, add-one, zero-add, arith}
 use Rattle.layout.specs.Refusals.{Answer, refuse}
 use Rattle.layout.specs.declared.refusals.Reason.TheVariants.{DataObject}
 use Rattle.layout.specs.declared.refusals.Refusal.{Refusal}
@@ -21,11 +21,11 @@ pub record Progress (xs : List ℕ) (at n : ℕ) : Type 0 where
   pub few : n ≤ at
   pub within : at ≤ length xs
   pub turns : ℕ
-  pub enough : length xs < turns + at
-  pub left : counted_from n (objects_from turns xs at) ≡ counted (objects_of xs)
+  pub enough : length xs ≤ turns + at
+  pub left : counted_from n (objects_from (suc turns) xs at) ≡ counted (objects_of xs)
 
 pub progress_none : (xs : List ℕ) → Progress xs 0 0
-progress_none xs = record { few = omega arith; within = omega arith; turns = length xs + 1; enough = omega arith; left = counted_all (objects_of xs) }
+progress_none xs = record { few = omega arith; within = omega arith; turns = length xs; enough = omega arith; left = ap (λ t. counted_from 0 (objects_from t xs 0)) (sym (add-one (length xs))) ∙ counted_all (objects_of xs) }
 
 -- one object more is counted before the others
 counted_before : (n : ℕ) (o : Fields) (r : Objects) → counted_from n (before o r) ≡ counted_from (n + 1) r
@@ -57,35 +57,23 @@ next_wrong xs at r e = (wrong xs at r e).1
 
 module _ (xs : List ℕ) (at n : ℕ) where
   pub progress_done : Progress xs at n → next_object xs at ≡ Ok None → Ok n ≡ counted (objects_of xs)
-  progress_done p e = by_turns p.turns p.enough p.left
-    where
-      by_turns : (turns : ℕ) → length xs < turns + at → counted_from n (objects_from turns xs at) ≡ counted (objects_of xs) → Ok n ≡ counted (objects_of xs)
-      by_turns zero enough left = let w = p.within in absurd (omega arith)
-      by_turns (suc turns) enough left = ap (λ k. Ok k) (sym (add-zero n)) ∙ ap (counted_from n) (sym (at_end xs turns at (ended xs at e))) ∙ left
+  progress_done p e = grind (arith, at_end xs p.turns at (ended xs at e), p.left)
 
   pub progress_wrong : (r : Refusal) → Progress xs at n → next_object xs at ≡ Err r → Err r ≡ counted (objects_of xs)
-  progress_wrong r p e = by_turns p.turns p.enough p.left
-    where
-      by_turns : (turns : ℕ) → length xs < turns + at → counted_from n (objects_from turns xs at) ≡ counted (objects_of xs) → Err r ≡ counted (objects_of xs)
-      by_turns zero enough left = let w = p.within in absurd (omega arith)
-      by_turns (suc turns) enough left =
-          let w = wrong xs at r e in
-          w.2 ∙ ap (counted_from n) (sym (at_more xs turns at w.1 ∙ ap (before_rest (objects_from turns xs) at) w.0)) ∙ left
+  progress_wrong r p e = let w = wrong xs at r e in grind (arith, at_more xs p.turns at w.1, w.0, w.2, p.left)
 
   pub progress_more : (m : Met) → Progress xs at n → next_object xs at ≡ Ok (Some m) → Progress xs m.next (n + 1)
   progress_more m p e = by_turns p.turns p.enough p.left
     where
-      by_turns : (turns : ℕ) → length xs < turns + at → counted_from n (objects_from turns xs at) ≡ counted (objects_of xs) → Progress xs m.next (n + 1)
-      by_turns zero enough left = let w = p.within in absurd (omega arith)
+      by_turns : (turns : ℕ) → length xs ≤ turns + at → counted_from n (objects_from (suc turns) xs at) ≡ counted (objects_of xs) → Progress xs m.next (n + 1)
+      by_turns zero enough left = let w = next_met xs at m e in absurd (omega (arith, w.up, w.inside))
       by_turns (suc turns) enough left =
           let w = met xs at m e in
-          let f = object_sound xs at m w.0 in
-          let up = f.up in
-          let few = p.few in
+          let f = next_met xs at m e in
           record {
-            few = omega arith;
+            few = omega (arith, p.few, f.up);
             within = f.inside;
             turns = turns;
-            enough = omega arith;
-            left = sym (counted_before n m.object (objects_from turns xs m.next)) ∙ ap (counted_from n) (sym (at_more xs turns at w.1 ∙ ap (before_rest (objects_from turns xs) at) w.0)) ∙ left;
+            enough = omega (arith, f.up);
+            left = grind (arith, counted_before n m.object (objects_from (suc turns) xs m.next), at_more xs (suc turns) at w.1, w.0, left);
           }
