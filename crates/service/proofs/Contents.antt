@@ -1,7 +1,7 @@
 -- The objects of a content: by walking, and by the grammar. Assumes nothing.
 use Rattle.std.proofs.Common.{◌≡◌, ℕ, zero, suc, ◌+◌, ◌<◌, ◌≤◌, Bool, true, false, eqb, List, [], ◌∷◌, ◌++◌, length, drop, Some, None, Ok, Err, Option, sym, refl, ap, ◌∙◌, subst, arith, length-append, length-drop}
 use Rattle.std.proofs.lemmas.List.{drop_all}
-use Rattle.std.proofs.lemmas.Bool.{cond-true, cond-false, eqb-true, eqb-false, eq-eqb, ne_eqb}
+use Rattle.std.proofs.lemmas.Bool.{cond-true, cond-false, eqb-true, eqb-false, ne_eqb}
 use Rattle.service.specs.Grammar.{ObjectIs, ContentIs}
 use Rattle.service.specs.Laws.{WalkOver, Walked, ContentExact}
 use Rattle.service.specs.Objects.{Fields, Met, Objects, object_at, or_wrong, next_object, before, before_rest, objects_from}

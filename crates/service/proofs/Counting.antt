@@ -3,7 +3,7 @@ use Rattle.std.proofs.Common.{◌≡◌, ℕ, zero, suc, ◌+◌, ◌<◌, ◌�
 use Rattle.layout.specs.Refusals.{Answer, refuse}
 use Rattle.layout.specs.declared.refusals.Reason.TheVariants.{DataObject}
 use Rattle.layout.specs.declared.refusals.Refusal.{Refusal}
-use Rattle.service.specs.Objects.{Fields, Met, Objects, object_at, next_object, before, before_rest, objects_from, objects_of, counted}
+use Rattle.service.specs.Objects.{Fields, Met, Objects, object_at, next_object, before, objects_from, objects_of, counted}
 use Rattle.service.proofs.Contents.{at_end, at_more}
 use Rattle.service.proofs.ObjectForms.{object_sound}
 

@@ -1,7 +1,7 @@
 -- An object is read exactly if one stands there. Assumes nothing.
 use Rattle.std.proofs.Common.{◌≡◌, ℕ, ◌+◌, ◌-◌, ◌*◌, ◌<◌, ◌≤◌, Bool, true, false, cond, ◌||◌, eqb, ltb, leb, List, [], ◌∷◌, ◌++◌, length, get_or, drop, Some, None, Option, sym, refl, ap, ◌∙◌, subst, append_assoc, add_assoc, arith, length-append, length-drop}
 use Rattle.std.proofs.lemmas.List.{drop_more}
-use Rattle.std.proofs.lemmas.Bool.{cond-true, cond-false, lt-leb, leb-false, ltb-false, le-ltb, eqb-false, ne_eqb, or_from, or_parts, false≢true}
+use Rattle.std.proofs.lemmas.Bool.{leb-false, ltb-false, eqb-false, or_parts, false≢true}
 use Rattle.std.specs.List.{between}
 use Rattle.service.specs.Grammar.{TagIs, OneByte, TwoBytes, ObjectIs}
 use Rattle.service.specs.Lengths.{LengthIs, length_at}

@@ -8,6 +8,7 @@ use crate::lengths::{Length, length_at};
 use layout::{Reason, Refusal};
 
 // An object with a tag of one byte or of two, the first of them the high one. Its data is a part of the content, and `next` is the offset after it.
+// Each case has the fields of its own, since the project fixes this form of the answer.
 #[derive(Drop)]
 pub enum Object<'a> {
     OneByte {
@@ -76,6 +77,7 @@ fn object_at<'a>(content: &'a [u8], at: usize) -> Option<Object<'a>>
 }
 
 // The object at an offset, or none at the end. Refused where no whole object stands.
+// Content and offset stay two parameters, here and in what it calls, since the project fixes this form of the call.
 #[tactic(auto, using(crate::proofs::Contents::walked))]
 pub fn next_object<'a>(content: &'a [u8], at: usize) -> Result<Option<Object<'a>>, Refusal>
     ensures reads { next_seen result ≡ next_object content.now at }
@@ -140,6 +142,7 @@ pub fn count_objects(content: &[u8]) -> Result<usize, Refusal>
 {
     let objects = ObjectsFrom { content, at: 0 };
     let mut count = 0;
+    // a closure of try_fold would have to show that one more fits after any count
     for object in objects {
         object?;
         count += 1;

@@ -44,7 +44,7 @@ fn judge_new(tag: u8, content: &[u8]) -> Result<u8, Refusal>
 }
 
 // The bytes of a frame up to its padding.
-fn framed(tag: u8, count: u8, content: &[u8]) -> ArrayVec<u8, 272>
+fn framed(tag: u8, count: u8, content: &[u8]) -> ArrayVec<u8, LONGEST_RUN>
     requires { count ≡ length content.now }
     ensures { result.items ≡ summed (covered tag (short_length count) content.now) }
 {
@@ -57,7 +57,7 @@ fn framed(tag: u8, count: u8, content: &[u8]) -> ArrayVec<u8, 272>
 }
 
 // The outer tag and the shorter form of the length.
-fn header(tag: u8, count: u8) -> ArrayVec<u8, 272>
+fn header(tag: u8, count: u8) -> ArrayVec<u8, LONGEST_RUN>
     ensures { result.items ≡ tag ∷ short_length count }
 {
     let mut frame = ArrayVec::new();
