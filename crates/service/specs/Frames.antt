@@ -51,12 +51,12 @@ end_judged run end = cond (marked run end) (cond (sum_right run end) (Ok tt) (re
 abbrev pub used : ℕ → Bool
 used byte = not (byte == 0)
 
--- none was found from an offset on, or so many places after it
+-- no such byte was found from an offset on, or the first of them so many places after it
 abbrev pub none_used : ℕ → Option ℕ → Answer (Unit {0})
 none_used from None = Ok tt
 none_used from (Some after) = refuse DataPadding (from + after)
 
--- what follows the checksum is 00 to the end: no byte there is the first that is not 00
+-- what follows the checksum is 00 to the end; refused at the first byte that is not
 abbrev pub padding_judged : List ℕ → ℕ → Answer (Unit {0})
 padding_judged run from = none_used from (position used (drop from run))
 
