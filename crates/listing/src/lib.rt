@@ -74,7 +74,7 @@ fn verdict_lines(heap: Global, verdict: &Result<Directory, Refusal>) -> Result<S
 {
     match verdict {
         Ok(directory) => directory_lines(heap, directory),
-        Err(refusal) => refused_line(heap, *refusal),
+        Err(why) => refused_line(heap, *why),
     }
 }
 

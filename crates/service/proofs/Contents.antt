@@ -1,7 +1,7 @@
 -- The objects of a content: by walking, and by the grammar. Assumes nothing.
 use Rattle.std.proofs.Common.{◌≡◌, ℕ, zero, suc, ◌+◌, ◌<◌, ◌≤◌, Bool, true, false, eqb, List, [], ◌∷◌, ◌++◌, length, drop, Some, None, Ok, Err, Option, sym, refl, ap, ◌∙◌, subst, arith, length-append, length-drop}
 use Rattle.std.proofs.lemmas.List.{drop_all}
-use Rattle.std.proofs.lemmas.Bool.{cond-true, cond-false, eqb-true, eqb-false, eq-eqb, ne_eqb}
+use Rattle.std.proofs.lemmas.Bool.{cond-true, cond-false, eqb-true, eqb-false, ne_eqb}
 use Rattle.service.specs.Grammar.{ObjectIs, ContentIs}
 use Rattle.service.specs.Laws.{WalkOver, Walked, ContentExact}
 use Rattle.service.specs.Objects.{Fields, Met, Objects, object_at, or_wrong, next_object, before, before_rest, objects_from}
@@ -11,11 +11,11 @@ use Rattle.service.proofs.Offsets.{after_front, front_inside}
 module _ (xs : List ℕ) where
   pub at_end : (turns at : ℕ) → at ≡ length xs → objects_from (suc turns) xs at ≡ Ok []
   unfolding objects_from
-  at_end turns at e = cond-true _ _ _ (eq-eqb at (length xs) e)
+  at_end turns at e = grind arith
 
   pub at_more : (turns at : ℕ) → (at ≡ length xs → ⊥) → objects_from (suc turns) xs at ≡ before_rest (objects_from turns xs) at (object_at xs at)
   unfolding objects_from
-  at_more turns at ne = cond-false _ _ _ (ne_eqb at (length xs) ne)
+  at_more turns at ne = grind arith
 
   -- one object before a walk
   walk_before : (at : ℕ) (m : Met) (r : Objects) → next_object xs at ≡ Ok (Some m) → WalkOver xs m.next r → WalkOver xs at (before m.object r)
@@ -44,18 +44,18 @@ module _ (xs : List ℕ) where
 
   content_end : (turns at : ℕ) (os : List Fields) → at ≡ length xs → objects_from (suc turns) xs at ≡ Ok os → ContentIs os (drop at xs)
   content_end turns at [] last e = drop_all at xs (omega arith)
-  content_end turns at (o ∷ os) last e = let n = at_end turns at last in let z : ◌≡◌ {A = ℕ} 0 1 = cc in absurd (omega arith)
+  content_end turns at (o ∷ os) last e = let n = at_end turns at last in grind arith
 
   module _ (turns at : ℕ) where
     content_before : (m : Met) (r : Objects) (os : List Fields) → ObjectFound xs at m → before m.object r ≡ Ok os → ((rest : List Fields) → r ≡ Ok rest → ContentIs rest (drop m.next xs)) → ContentIs os (drop at xs)
-    content_before m (Err wrong) os f e on = let z : ◌≡◌ {A = ℕ} 0 1 = cc in absurd (omega arith)
+    content_before m (Err wrong) os f e on = grind arith
     content_before m (Ok rest) os f e on =
         let is : m.object ∷ rest ≡ os = cc in
         subst (λ l. ContentIs l (drop at xs)) is (record { front = f.front; rest = drop m.next xs; first = f.is; others = on rest refl; all = f.there })
 
     content_object : (o : Option Met) (os : List Fields) → object_at xs at ≡ o → before_rest (objects_from turns xs) at o ≡ Ok os
         → ((m : Met) → ObjectFound xs at m → (rest : List Fields) → objects_from turns xs m.next ≡ Ok rest → ContentIs rest (drop m.next xs)) → ContentIs os (drop at xs)
-    content_object None os is e on = let z : ◌≡◌ {A = ℕ} 0 1 = cc in absurd (omega arith)
+    content_object None os is e on = grind arith
     content_object (Some m) os is e on = let f = object_sound xs at m is in content_before m (objects_from turns xs m.next) os f e (on m f)
 
     content_turn : (end : Bool) (os : List Fields) → eqb at (length xs) ≡ end → objects_from (suc turns) xs at ≡ Ok os
@@ -65,7 +65,7 @@ module _ (xs : List ℕ) where
 
   content_sound : (turns at : ℕ) (os : List Fields) → objects_from turns xs at ≡ Ok os → ContentIs os (drop at xs)
   unfolding objects_from
-  content_sound zero at os e = let z : ◌≡◌ {A = ℕ} 0 1 = cc in absurd (omega arith)
+  content_sound zero at os e = grind arith
   content_sound (suc turns) at os e = content_turn turns at (eqb at (length xs)) os refl e (λ m f rest. content_sound turns m.next rest)
 
   object_long : (o : Fields) (front : List ℕ) → ObjectIs o front → 0 < length front

@@ -1,13 +1,13 @@
 -- A run is read exactly if it holds service data. Assumes nothing.
-use Rattle.std.proofs.Common.{◌≡◌, ℕ, ◌+◌, ◌*◌, ◌<◌, ◌≤◌, Bool, true, false, cond, ◌&&◌, eqb, leb, ◌⊎◌, List, [], ◌∷◌, ◌++◌, length, get_or, take, drop, replicate, Some, None, Ok, Err, Option, sym, refl, ap, ◌∙◌, subst, inl, inr, ⊎_elim, append_assoc, add_assoc, arith, lit<, length-append, length-drop}
+use Rattle.std.proofs.Common.{◌≡◌, ℕ, ◌+◌, ◌*◌, ◌<◌, ◌≤◌, Bool, true, false, cond, ◌&&◌, eqb, leb, ◌⊎◌, List, [], ◌∷◌, ◌++◌, length, get_or, take, drop, replicate, Some, None, Ok, Err, Option, sym, refl, ap, ◌∙◌, subst, append_assoc, add_assoc, arith, lit<, length-append, length-drop}
 use Rattle.std.proofs.lemmas.List.{drop_more, take_at}
-use Rattle.std.proofs.lemmas.Bool.{cond-true, cond-false, lt-leb, le-leb, leb-true, leb-false, eqb-true, eq-eqb, and_from, and_parts, or_left, or_right, or_cases}
-use Rattle.std.specs.List.{between}
+use Rattle.std.proofs.lemmas.Bool.{cond-true, cond-false, lt-leb, leb-true, leb-false, eqb-true, and_parts}
+use Rattle.std.specs.List.{between, position}
 use Rattle.layout.specs.Crc.{crc16}
 use Rattle.layout.specs.Refusals.{Answer, then, refuse}
 use Rattle.layout.specs.declared.refusals.Reason.TheVariants.{DataFrame, DataChecksum}
 use Rattle.layout.proofs.Answered.{then_ok}
-use Rattle.service.specs.Frames.{Held, outer, content_at, header_of, marked, sum_right, end_judged, used_from, padding_judged, frame_in, frame_of}
+use Rattle.service.specs.Frames.{Held, outer, content_at, header_of, marked, sum_right, end_judged, used, none_used, padding_judged, frame_in, frame_of}
 use Rattle.service.specs.Grammar.{covered}
 use Rattle.service.specs.Laws.{Holds, FrameExact}
 use Rattle.service.specs.Lengths.{LengthIs, length_at}
@@ -70,7 +70,10 @@ places run f h =
     }
 
 pub outer_tag : (tag : ℕ) → (tag ≡ 0xE0) ⊎ (tag ≡ 0x65) → outer tag ≡ true
-outer_tag tag is = ⊎_elim (λ e. or_left _ _ (eq-eqb tag 0xE0 e)) (λ e. or_right _ _ (eq-eqb tag 0x65 e)) is
+outer_tag tag is = grind arith
+
+pub tag_outer : (tag : ℕ) → outer tag ≡ true → (tag ≡ 0xE0) ⊎ (tag ≡ 0x65)
+tag_outer tag is = grind arith
 
 -- a header with its content's end
 abbrev pub header_at : ℕ → ℕ → ℕ → Header
@@ -93,18 +96,18 @@ frame_complete run f h =
     let header : header_of run ≡ Ok (header_at f.tag f.start end) =
     header_complete run f.tag (length f.content) h.size _ p.some p.tag (outer_tag _ w.outer) w.sized p.header
     ∙ ap (λ s. Ok (header_at f.tag s (s + length f.content))) (sym h.start) in
-    let mark : marked run end ≡ true = and_from _ _ (le-leb _ _ p.room) (and_from _ _ (eq-eqb _ _ p.first) (eq-eqb _ _ p.second)) in
-    let sum : sum_right run end ≡ true = eq-eqb _ _ ((λ i. p.high i * 256 + p.low i) ∙ w.sum ∙ ap crc16 (sym p.before)) in
-    let ended : end_judged run end ≡ Ok tt = cond-true _ _ _ mark ∙ cond-true _ _ _ sum in
+    let mark : marked run end ≡ true = grind (arith, p.room, p.first, p.second) in
+    let sum : sum_right run end ≡ true = grind (arith, p.high, p.low, w.sum, p.before) in
+    let ended : end_judged run end ≡ Ok tt = grind (arith, mark, sum) in
     let objects : counted (objects_of (between f.start end run)) ≡ Ok f.objects =
     ap counted (ap objects_of p.content ∙ (content_exact f.content).complete h.objects h.content) ∙ ap (λ n. Ok n) (sym h.count) in
-    let padding : padding_judged run (end + 4) ≡ Ok tt = ap (λ ys. used_from ys (end + 4)) p.rest ∙ unused_complete w.padding (end + 4) in
+    let padding : padding_judged run (end + 4) ≡ Ok tt = ap (λ ys. none_used (end + 4) (position used ys)) p.rest ∙ unused_complete w.padding (end + 4) in
     ap (λ r. then r (frame_in run)) header
     ∙ (λ i. then (ended i) (λ _. then (objects i) (λ n. then (padding i) (λ _. Ok (record { tag = f.tag; start = f.start; content = p.content i; objects = n })))))
 
 pub counted_ok : (r : Objects) (n : ℕ) → counted r ≡ Ok n → (os : List Fields) × (r ≡ Ok os) × (n ≡ length os)
 counted_ok (Ok os) n e = (os, refl, cc)
-counted_ok (Err at) n e = let z : ◌≡◌ {A = ℕ} 0 1 = cc in absurd (omega arith)
+counted_ok (Err at) n e = grind arith
 
 -- a header stands at the front
 record HeaderFound (run : List ℕ) (h : Header) : Type 0 where
@@ -121,7 +124,7 @@ header_sound : (run : List ℕ) (h : Header) → header_of run ≡ Ok h → Head
 header_sound run h e = by_tests (leb (length run) 0) (outer (get_or run 0 0)) (length_at run 1) refl refl refl e
   where
     wrong : (r : Answer Header) → r ≡ Ok h → (p : ℕ) → r ≡ refuse DataFrame p → HeaderFound run h
-    wrong r e p is = let z : ◌≡◌ {A = ℕ} 0 1 = cc in absurd (omega arith)
+    wrong r e p is = grind arith
 
     by_tests : (empty out : Bool) (o : Option Length) → leb (length run) 0 ≡ empty → outer (get_or run 0 0) ≡ out → length_at run 1 ≡ o
         → cond empty (refuse DataFrame 0) (cond out (content_at (get_or run 0 0) o) (refuse DataFrame 0)) ≡ Ok h → HeaderFound run h
@@ -133,7 +136,7 @@ header_sound run h e = by_tests (leb (length run) 0) (outer (get_or run 0 0)) (l
         let is : header_at (get_or run 0 0) l.after (l.after + l.count) ≡ h = cc in
         subst (HeaderFound run) is (record {
           size = f.bytes;
-          outer_is = ⊎_elim (λ k. inl (eqb-true _ _ k)) (λ k. inr (eqb-true _ _ k)) (or_cases _ _ u);
+          outer_is = tag_outer _ u;
           count = l.count;
           sized = f.is;
           there = drop_more run 0 0 (leb-false _ _ n) ∙ ap (λ r. get_or run 0 0 ∷ r) f.there;
@@ -152,8 +155,8 @@ end_sound : (run : List ℕ) (end : ℕ) → end_judged run end ≡ Ok tt → En
 end_sound run end e = by_tests (marked run end) (sum_right run end) refl refl e
   where
     by_tests : (mark sum : Bool) → marked run end ≡ mark → sum_right run end ≡ sum → ◌≡◌ {A = Answer (Unit {0})} (cond mark (cond sum (Ok tt) (refuse DataChecksum (end + 2))) (refuse DataFrame end)) (Ok tt) → EndFound run end
-    by_tests false sum m s e = let z : ◌≡◌ {A = ℕ} 0 1 = cc in absurd (omega arith)
-    by_tests true false m s e = let z : ◌≡◌ {A = ℕ} 0 1 = cc in absurd (omega arith)
+    by_tests false sum m s e = grind arith
+    by_tests true false m s e = grind arith
     by_tests true true m s e =
         let tests = and_parts (leb (end + 4) (length run)) (eqb (get_or run end 0) 0xC0 && eqb (get_or run (end + 1) 0) 0x02) m in
         let room : end + 4 ≤ length run = leb-true _ _ tests.0 in

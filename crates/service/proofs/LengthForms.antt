@@ -1,7 +1,7 @@
 -- A length is read exactly if one stands there. Assumes nothing.
-use Rattle.std.proofs.Common.{◌≡◌, ℕ, ◌+◌, ◌≤◌, Bool, true, false, cond, eqb, leb, List, [], ◌∷◌, ◌++◌, length, get_or, drop, Some, None, sym, refl, ap, ◌∙◌, subst, inl, inr, ⊎_elim, add_assoc, arith}
+use Rattle.std.proofs.Common.{◌≡◌, ℕ, ◌+◌, ◌≤◌, Bool, true, false, cond, eqb, leb, List, [], ◌∷◌, ◌++◌, length, get_or, drop, Some, None, refl, ap, ◌∙◌, subst, inl, inr, ⊎_elim, add_assoc, arith}
 use Rattle.std.proofs.lemmas.List.{drop_more}
-use Rattle.std.proofs.lemmas.Bool.{cond-true, cond-false, lt-leb, le-leb, leb-true, leb-false, eqb-true}
+use Rattle.std.proofs.lemmas.Bool.{leb-true, leb-false, eqb-true}
 use Rattle.service.specs.Lengths.{LengthIs, length_to, length_at}
 use Rattle.service.specs.declared.lengths.Length.{Length}
 use Rattle.service.proofs.Offsets.{here}
@@ -13,19 +13,13 @@ module _ (xs : List ℕ) (at : ℕ) where
       short : (bytes ≡ n ∷ []) × (n ≤ 0x7F) → length_at xs at ≡ length_to (at + length bytes) n
       short s =
           let h = here xs at n rest (e ∙ ap (λ b. b ++ rest) s.0) in
-          cond-false _ _ _ (lt-leb _ _ h.inside)
-          ∙ cond-true _ _ _ (ap (λ b. leb b 0x7F) h.byte ∙ le-leb n 0x7F s.1)
-          ∙ (λ i. length_to (at + length (sym s.0 i)) (h.byte i))
+          grind (arith, h.inside, h.byte, s.0, s.1)
 
       long : bytes ≡ 0x81 ∷ n ∷ [] → length_at xs at ≡ length_to (at + length bytes) n
       long s =
           let h = here xs at 0x81 (n ∷ rest) (e ∙ ap (λ b. b ++ rest) s) in
           let k = here xs (at + 1) n rest h.more in
-          cond-false _ _ _ (lt-leb _ _ h.inside)
-          ∙ cond-false _ _ _ (ap (λ b. leb b 0x7F) h.byte)
-          ∙ cond-true _ _ _ (ap (λ b. eqb b 0x81) h.byte)
-          ∙ cond-false _ _ _ (lt-leb _ _ k.inside)
-          ∙ (λ i. length_to (at + length (sym s i)) (k.byte i))
+          grind (arith, h.inside, h.byte, k.inside, k.byte, s)
 
   -- a length stands at the offset
   pub record LengthFound (l : Length) : Type 0 where
@@ -39,7 +33,7 @@ module _ (xs : List ℕ) (at : ℕ) where
   length_sound l e = by_tests (leb (length xs) at) (leb (get_or xs at 0) 0x7F) (eqb (get_or xs at 0) 0x81) (leb (length xs) (at + 1)) refl refl refl refl e
     where
       none : (None ≡ Some l) → LengthFound l
-      none e = let z : ◌≡◌ {A = ℕ} 0 1 = cc in absurd (omega arith)
+      none e = grind arith
 
       by_tests : (past short long cut : Bool) → leb (length xs) at ≡ past → leb (get_or xs at 0) 0x7F ≡ short → eqb (get_or xs at 0) 0x81 ≡ long → leb (length xs) (at + 1) ≡ cut
           → cond past None (cond short (length_to (at + 1) (get_or xs at 0)) (cond long (cond cut None (length_to (at + 2) (get_or xs (at + 1) 0))) None)) ≡ Some l

@@ -1,7 +1,7 @@
 -- An object is read exactly if one stands there. Assumes nothing.
 use Rattle.std.proofs.Common.{◌≡◌, ℕ, ◌+◌, ◌-◌, ◌*◌, ◌<◌, ◌≤◌, Bool, true, false, cond, ◌||◌, eqb, ltb, leb, List, [], ◌∷◌, ◌++◌, length, get_or, drop, Some, None, Option, sym, refl, ap, ◌∙◌, subst, append_assoc, add_assoc, arith, length-append, length-drop}
 use Rattle.std.proofs.lemmas.List.{drop_more}
-use Rattle.std.proofs.lemmas.Bool.{cond-true, cond-false, lt-leb, leb-false, ltb-false, le-ltb, eqb-false, ne_eqb, or_from, or_parts, false≢true}
+use Rattle.std.proofs.lemmas.Bool.{leb-false, ltb-false, eqb-false, or_parts, false≢true}
 use Rattle.std.specs.List.{between}
 use Rattle.service.specs.Grammar.{TagIs, OneByte, TwoBytes, ObjectIs}
 use Rattle.service.specs.Lengths.{LengthIs, length_at}
@@ -22,9 +22,7 @@ module _ (xs : List ℕ) where
       let room : n ≤ length xs - after = omega (arith, length-drop after xs, ap length behind, length-append bytes rest) in
       let part : between (after + 1) (after + n) xs ≡ bytes =
       ap (λ k. between (after + 1) k xs) (omega arith) ∙ front_between xs (after + 1) (length bytes) bytes rest refl h.more in
-      ap (value_of xs) (length_complete xs at n size (format ∷ (bytes ++ rest)) sized e)
-      ∙ cond-false _ _ _ (or_from _ _ (ne_eqb n 0 (λ z. omega arith)) (le-ltb _ _ room))
-      ∙ (λ i. Some (record { format = h.byte i; bytes = part i; next = after + n }))
+      grind (arith, length_complete xs at n size (format ∷ (bytes ++ rest)) sized e, room, h.byte, part)
 
   -- a format byte and data stand behind their length
   pub record ValueFound (at : ℕ) (v : Body) : Type 0 where
@@ -38,13 +36,13 @@ module _ (xs : List ℕ) where
   value_sound at v e = by_length (length_at xs at) refl e
     where
       by_length : (o : Option Length) → length_at xs at ≡ o → value_of xs o ≡ Some v → ValueFound at v
-      by_length None is e = let z : ◌≡◌ {A = ℕ} 0 1 = cc in absurd (omega arith)
+      by_length None is e = grind arith
       by_length (Some l) is e = by_test (eqb l.count 0 || ltb (length xs - l.after) l.count) refl e
         where
           by_test : (wrong : Bool) → (eqb l.count 0 || ltb (length xs - l.after) l.count) ≡ wrong
               → cond wrong None (Some (record { format = get_or xs l.after 0; bytes = between (l.after + 1) (l.after + l.count) xs; next = l.after + l.count })) ≡ Some v
               → ValueFound at v
-          by_test true w e = let z : ◌≡◌ {A = ℕ} 0 1 = cc in absurd (omega arith)
+          by_test true w e = grind arith
           by_test false w e =
               let f = length_sound xs at l is in
               let after = l.after in
@@ -88,24 +86,15 @@ module _ (xs : List ℕ) where
           let h = here xs at t _ (there ∙ ap (λ b. b ++ (is.size ++ (o.format ∷ (o.bytes ++ rest)))) w.all) in
           let v = value_complete (at + 1) o.format is.size o.bytes rest (omega (arith, h.inside)) is.sized h.more in
           let next : at + 1 + length is.size + (length o.bytes + 1) ≡ at + length front = omega (arith, long, ap length w.all) in
-          cond-false _ _ _ (or_from _ _ (lt-leb _ _ h.inside) (ne_eqb _ 0 (λ z. w.used (sym h.byte ∙ z))))
-          ∙ cond-false _ _ _ (ap goes_on h.byte ∙ w.alone)
-          ∙ (λ i. tagged (one (h.byte i)) (v i))
-          ∙ (λ i. Some (record { object = record { tag = is_tag i; format = o.format; bytes = o.bytes }; next = next i }))
+          grind (arith, h.inside, h.byte, w.used, w.alone, v, is_tag, next)
       by_tag (two t) is_tag which =
           let w : TwoBytes t is.tag = subst (λ k. TagIs k is.tag) (sym is_tag) which in
           let h = here xs at w.first _ (there ∙ ap (λ b. b ++ (is.size ++ (o.format ∷ (o.bytes ++ rest)))) w.all) in
           let k = here xs (at + 1) w.second _ h.more in
           let v = value_complete (at + 2) o.format is.size o.bytes rest (omega (arith, k.inside)) is.sized (ap (λ n. drop n xs) (sym (add_assoc at 1 1)) ∙ k.more) in
           let next : at + 2 + length is.size + (length o.bytes + 1) ≡ at + length front = omega (arith, long, ap length w.all) in
-          cond-false _ _ _ (or_from _ _ (lt-leb _ _ h.inside) (ne_eqb _ 0 (λ z. first_used w.first w.follows (sym h.byte ∙ z))))
-          ∙ cond-true _ _ _ (ap goes_on h.byte ∙ w.follows)
-          ∙ cond-false _ _ _ (or_from _ _ (lt-leb _ _ k.inside) (ap (leb 0x80) k.byte ∙ lt-leb 0x80 _ w.low))
-          ∙ (λ i. tagged (two (h.byte i * 256 + k.byte i)) (v i))
-          ∙ (λ i. Some (record { object = record { tag = (ap two (sym w.value) ∙ is_tag) i; format = o.format; bytes = o.bytes }; next = next i }))
-        where
-          first_used : (b : ℕ) → goes_on b ≡ true → b ≡ 0 → ⊥
-          first_used b f z = false≢true (ap goes_on (sym z) ∙ f)
+          let used : get_or xs at 0 ≡ 0 → ⊥ = λ z. false≢true (ap goes_on (sym z ∙ h.byte) ∙ w.follows) in
+          grind (arith, h.inside, h.byte, used, w.follows, k.inside, k.byte, w.low, w.value, v, is_tag, next)
 
   -- an object stands at the offset
   pub record ObjectFound (at : ℕ) (m : Met) : Type 0 where
@@ -118,7 +107,7 @@ module _ (xs : List ℕ) where
   -- a tag and what its length counts
   module _ (at : ℕ) (tag : Tag) (bytes : List ℕ) (is : TagIs tag bytes) where
     pub found_behind : (m : Met) (o : Option Body) → value_at xs (at + length bytes) ≡ o → drop at xs ≡ bytes ++ drop (at + length bytes) xs → tagged tag o ≡ Some m → ObjectFound at m
-    found_behind m None none there e = let z : ◌≡◌ {A = ℕ} 0 1 = cc in absurd (omega arith)
+    found_behind m None none there e = grind arith
     found_behind m (Some v) some there e =
         let f = value_sound (at + length bytes) v some in
         let is_m : record { object = record { tag = tag; format = v.format; bytes = v.bytes }; next = v.next } ≡ m = cc in
@@ -138,7 +127,7 @@ module _ (xs : List ℕ) where
       by_tests (leb (length xs) at || eqb (get_or xs at 0) 0) (goes_on (get_or xs at 0)) (leb (length xs) (at + 1) || leb 0x80 (get_or xs (at + 1) 0)) refl refl refl e
     where
       none : (None ≡ Some m) → ObjectFound at m
-      none e = let z : ◌≡◌ {A = ℕ} 0 1 = cc in absurd (omega arith)
+      none e = grind arith
 
       by_tests : (wrong on short : Bool) → (leb (length xs) at || eqb (get_or xs at 0) 0) ≡ wrong → goes_on (get_or xs at 0) ≡ on → (leb (length xs) (at + 1) || leb 0x80 (get_or xs (at + 1) 0)) ≡ short
           → cond wrong None (cond on (cond short None (tagged (two (get_or xs at 0 * 256 + get_or xs (at + 1) 0)) (value_at xs (at + 2)))) (tagged (one (get_or xs at 0)) (value_at xs (at + 1)))) ≡ Some m

@@ -1,9 +1,9 @@
 -- One altered byte of service data that does not move the frame is refused. Assumes nothing.
-use Rattle.std.proofs.Common.{◌≡◌, ℕ, ◌+◌, ◌*◌, ◌<◌, ◌≤◌, true, false, cond, ◌&&◌, eqb, leb, ◌⊎◌, List, ◌++◌, length, get_or, take, drop, Ok, sym, refl, ap, ◌∙◌, subst, inl, inr, ⊎_elim, arith, ext_get_or}
+use Rattle.std.proofs.Common.{◌≡◌, ℕ, ◌+◌, ◌*◌, ◌<◌, ◌≤◌, true, false, ◌⊎◌, List, ◌++◌, length, get_or, take, drop, Ok, sym, refl, ap, ◌∙◌, inl, inr, ⊎_elim, arith, ext_get_or}
 use Rattle.std.proofs.ByRecursion.{All-take}
 use Rattle.std.proofs.lemmas.List.Prefix.{at_from_reads, at_reads}
 use Rattle.std.proofs.lemmas.List.{get_or-take, get_or_past, length-take-le}
-use Rattle.std.proofs.lemmas.Bool.{cond-true, cond-false, le-leb, lt-leb, eq-eqb, ne_eqb, and_from, and_left, and_right, cases_lt, cases_Bool}
+use Rattle.std.proofs.lemmas.Bool.{ne_eqb, cases_lt, cases_Bool}
 use Rattle.layout.specs.Crc.{crc16}
 use Rattle.layout.specs.Differ.{Bytes, DifferInOne}
 use Rattle.layout.specs.Refusals.{then, refuse}
@@ -67,15 +67,13 @@ module _ (run after : List ℕ) (f : Held) (h : Holds run f) (d : DifferInOne ru
 
     -- the mark, where it is not altered
     mark : (end_of f ≡ d.place → ⊥) → (end_of f + 1 ≡ d.place → ⊥) → marked after (end_of f) ≡ true
-    mark first second =
-        and_from _ _ (le-leb _ _ (omega (arith, p.room, d.long)))
-        (and_from _ _ (eq-eqb _ _ (same _ first ∙ p.first)) (eq-eqb _ _ (same _ second ∙ p.second)))
+    mark first second = grind (arith, p.room, d.long, same _ first, same _ second, p.first, p.second)
 
     sum_was : get_or run (end_of f + 2) 0 * 256 + get_or run (end_of f + 3) 0 ≡ crc16 (take (end_of f + 2) run)
     sum_was = (λ i. p.high i * 256 + p.low i) ∙ h.layout.sum ∙ ap crc16 (sym p.before)
 
     wrong_sum : marked after (end_of f) ≡ true → sum_right after (end_of f) ≡ false → end_judged after (end_of f) ≡ refuse DataChecksum (end_of f + 2)
-    wrong_sum m s = cond-true _ _ _ m ∙ cond-false _ _ _ s
+    wrong_sum m s = grind arith
 
     -- a byte before the checksum was altered
     sum_covers : Bytes run → Bytes after → d.place < end_of f + 2 → sum_right after (end_of f) ≡ false
@@ -90,30 +88,11 @@ module _ (run after : List ℕ) (f : Held) (h : Holds run f) (d : DifferInOne ru
     sum_itself low high =
         let n = end_of f + 2 in
         let covers : crc16 (take n after) ≡ crc16 (take n run) = ap crc16 (same_take n run after d (omega (arith, p.room)) low) in
-        ne_eqb _ _ (λ e.
-        let level : get_or after (end_of f + 2) 0 * 256 + get_or after (end_of f + 3) 0 ≡ get_or run (end_of f + 2) 0 * 256 + get_or run (end_of f + 3) 0 = e ∙ covers ∙ sym sum_was in
-        ⊎_elim
-        (λ (first : d.place < end_of f + 3).
-        let at : end_of f + 2 ≡ d.place = omega arith in
-        let other = same (end_of f + 3) (λ k. omega arith) in
-        d.there (subst (λ k. get_or after k 0 ≡ get_or run k 0) at (omega arith)))
-        (λ (second : end_of f + 3 ≤ d.place).
-        let at : end_of f + 3 ≡ d.place = omega arith in
-        let other = same (end_of f + 2) (λ k. omega arith) in
-        d.there (subst (λ k. get_or after k 0 ≡ get_or run k 0) at (omega arith)))
-        (cases_lt d.place (end_of f + 3)))
+        grind (arith, d.there, same (end_of f + 2), same (end_of f + 3), covers, sum_was)
 
     -- a byte of the mark was altered
     mark_breaks : end_of f ≤ d.place → d.place < end_of f + 2 → end_judged after (end_of f) ≡ refuse DataFrame (end_of f)
-    mark_breaks low high =
-        cond-false _ (cond (sum_right after (end_of f)) (Ok tt) (refuse DataChecksum (end_of f + 2))) _ (and_right (leb (end_of f + 4) (length after)) (eqb (get_or after (end_of f) 0) 0xC0 && eqb (get_or after (end_of f + 1) 0) 0x02) (⊎_elim
-        (λ (first : d.place < end_of f + 1).
-        let at : d.place ≡ end_of f = omega arith in
-        and_left _ (eqb (get_or after (end_of f + 1) 0) 0x02) (ne_eqb _ _ (λ e. d.there (ap (λ k. get_or after k 0) at ∙ e ∙ sym (ap (λ k. get_or run k 0) at ∙ p.first)))))
-        (λ (second : end_of f + 1 ≤ d.place).
-        let at : d.place ≡ end_of f + 1 = omega arith in
-        and_right (eqb (get_or after (end_of f) 0) 0xC0) _ (ne_eqb _ _ (λ e. d.there (ap (λ k. get_or after k 0) at ∙ e ∙ sym (ap (λ k. get_or run k 0) at ∙ p.second)))))
-        (cases_lt d.place (end_of f + 1))))
+    mark_breaks low high = grind (arith, d.there, p.first, p.second, same (end_of f), same (end_of f + 1))
 
     kept : f.start ≤ d.place → header_of after ≡ Ok (header_at f.tag f.start (end_of f))
     kept low =
@@ -129,7 +108,7 @@ module _ (run after : List ℕ) (f : Held) (h : Holds run f) (d : DifferInOne ru
         inr (refused_end after _ DataChecksum _ (header (get_or after 0 0) refl is (λ k some small e. omega arith))
         (wrong_sum (mark (λ e. omega arith) (λ e. omega arith)) (sum_covers bx by (omega arith)))))
         (λ (is : outer (get_or after 0 0) ≡ false).
-        inl (ap (λ r. then r (frame_in after)) (cond-false _ _ _ (lt-leb _ 0 some) ∙ cond-false _ _ _ is)))
+        inl (grind (arith, some, is)))
         (cases_Bool (outer (get_or after 0 0)))
 
     altered : Bytes run → Bytes after → Altered f d.place after

@@ -1,7 +1,6 @@
 -- The frame of service data: how a run is judged, and what is written into one. Assumes nothing.
-use Rattle.std.specs.Prelude.{◌≡◌, ℕ, ◌+◌, ◌-◌, ◌*◌, ◌/◌, ◌%◌, ◌≤◌, Bool, cond, ◌&&◌, ◌||◌, List, [], ◌∷◌, ◌++◌, length, take, drop, replicate, Some, None, Ok, Err, Option, ◌==◌, nat_le, slice_index}
-use Rattle.std.specs.List.{between}
-use Rattle.layout.specs.Buffers.{overlaid}
+use Rattle.std.specs.Prelude.{ℕ, ◌+◌, ◌-◌, ◌*◌, ◌/◌, ◌%◌, Bool, cond, not, ◌&&◌, ◌||◌, List, [], ◌∷◌, ◌++◌, length, take, drop, replicate, Some, None, Ok, Err, Option, ◌==◌, nat_le, slice_index}
+use Rattle.std.specs.List.{between, position}
 use Rattle.layout.specs.Crc.{crc16}
 use Rattle.layout.specs.Refusals.{Answer, then, refuse}
 use Rattle.layout.specs.declared.refusals.Reason.TheVariants.{DataFrame, DataChecksum, DataPadding, OuterTag, NewContent}
@@ -48,14 +47,18 @@ sum_right run end = slice_index run (end + 2) * 256 + slice_index run (end + 3) 
 abbrev pub end_judged : List ℕ → ℕ → Answer (Unit {0})
 end_judged run end = cond (marked run end) (cond (sum_right run end) (Ok tt) (refuse DataChecksum (end + 2))) (refuse DataFrame end)
 
--- the first byte that is not 00 from an offset on
-abbrev pub used_from : List ℕ → ℕ → Answer (Unit {0})
-used_from [] at = Ok tt
-used_from (x ∷ xs) at = cond (x == 0) (used_from xs (at + 1)) (refuse DataPadding at)
+-- a byte that is not 00
+abbrev pub used : ℕ → Bool
+used byte = not (byte == 0)
 
--- what follows the checksum is 00 to the end
+-- no such byte was found from an offset on, or the first of them so many places after it
+abbrev pub none_used : ℕ → Option ℕ → Answer (Unit {0})
+none_used from None = Ok tt
+none_used from (Some after) = refuse DataPadding (from + after)
+
+-- what follows the checksum is 00 to the end; refused at the first byte that is not
 abbrev pub padding_judged : List ℕ → ℕ → Answer (Unit {0})
-padding_judged run from = used_from (drop from run) from
+padding_judged run from = none_used from (position used (drop from run))
 
 -- the objects of the content, and then the padding
 abbrev pub content_in : List ℕ → Header → Answer Held
@@ -97,8 +100,3 @@ objects_judged (Err wrong) = refuse NewContent wrong.place
 abbrev pub write_judged : ℕ → List ℕ → Answer (Unit {0})
 write_judged tag content =
     cond (outer tag) (cond (nat_le (length content) 255) (objects_judged (counted (objects_of content))) (refuse NewContent 255)) (refuse OuterTag 0)
-
--- more bytes were put behind the first so many of a buffer: whatever those are, the bytes stand behind them, and the rest is as it was
-abbrev pub Behind : List ℕ → ℕ → List ℕ → List ℕ → Type 0
-Behind buffer at more after =
-    (front rest : List ℕ) → buffer ≡ overlaid front rest → at ≡ length front → at + length more ≤ length rest → after ≡ overlaid (front ++ more) rest

@@ -4,3 +4,4 @@ pub mod Grammar
 pub mod Laws
 pub mod Lengths
 pub mod Objects
+pub mod Walks

@@ -1,6 +1,7 @@
 -- Objects of a content: what stands at an offset, and all of them. Assumes nothing.
 use Rattle.std.specs.Prelude.{ℕ, zero, suc, ◌+◌, ◌-◌, ◌*◌, Bool, cond, ◌||◌, List, [], ◌∷◌, length, Some, None, Ok, Err, Option, Result, ◌==◌, bit_and, nat_le, nat_lt, slice_index}
 use Rattle.std.specs.List.{between}
+use Rattle.std.specs.Option.{option_map}
 use Rattle.layout.specs.Refusals.{Answer, refuse}
 use Rattle.layout.specs.declared.refusals.Reason.TheVariants.{DataObject}
 use Rattle.service.specs.Lengths.{length_at}
@@ -31,8 +32,7 @@ seen (OneByte tag format part next) = record { object = record { tag = one tag; 
 seen (TwoByte tag format part next) = record { object = record { tag = two tag; format = format; bytes = part.now }; next = next }
 
 abbrev pub object_seen : Option Object → Option Met
-object_seen None = None
-object_seen (Some o) = Some (seen o)
+object_seen o = option_map seen o
 
 abbrev pub next_seen : Answer (Option Object) → Answer (Option Met)
 next_seen (Ok o) = Ok (object_seen o)
@@ -45,8 +45,7 @@ pub record Body : Type 0 where
   pub next : ℕ
 
 abbrev pub value_seen : Option Value → Option Body
-value_seen None = None
-value_seen (Some v) = Some (record { format = v.format; bytes = v.«data».now; next = v.next })
+value_seen o = option_map (λ v. record { format = v.format; bytes = v.«data».now; next = v.next }) o
 
 -- what follows a length: at least the format byte, and as much as it counts
 abbrev pub value_of : List ℕ → Option Length → Option Body
@@ -60,8 +59,7 @@ value_at xs at = value_of xs (length_at xs at)
 
 -- an object of a tag and what its length counts
 abbrev pub tagged : Tag → Option Body → Option Met
-tagged t None = None
-tagged t (Some v) = Some (record { object = record { tag = t; format = v.format; bytes = v.bytes }; next = v.next })
+tagged t o = option_map (λ v. record { object = record { tag = t; format = v.format; bytes = v.bytes }; next = v.next }) o
 
 -- a second byte follows a first whose low five bits are all ones
 abbrev pub goes_on : ℕ → Bool

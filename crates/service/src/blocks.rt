@@ -9,6 +9,6 @@ pub fn blocks_for(content: u8) -> u8
     ensures fewest { Fewest (header_size content + content + 4) result }
 {
     let header: u16 = if content <= 0x7F { 2 } else { 3 };
-    let bytes = header + content as u16 + 4;
-    ((bytes + 15) / 16) as u8
+    let bytes = header + u16::from(content) + 4;
+    bytes.div_ceil(16) as u8
 }

@@ -5,6 +5,7 @@ ghost use Rattle.service.specs.Figures.{Known};
 use crate::blocks::blocks_for;
 
 // The blocks for contents of 10, 11 and 255 bytes, as the code has them; and the figures of the definitions.
+#[tactic(auto, using(crate::proofs::KnownFigures::known))]
 pub fn known_figures() -> [u8; 3]
     ensures blocks { result ≡ 1 ∷ 2 ∷ 17 ∷ [] }
     ensures known { Known }

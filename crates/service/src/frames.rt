@@ -1,9 +1,10 @@
 // The frame of service data, read from the bytes of a run.
 ghost use Rattle.std.specs.Prelude.{◌≡◌, ◌+◌, ◌≤◌, true, length};
-ghost use Rattle.service.specs.Frames.{outer, header_of, end_judged, padding_judged, frame_of, frame_seen};
+ghost use Rattle.service.specs.Frames.{outer, header_of, end_judged, padding_judged, used, frame_of, frame_seen};
+ghost use Rattle.std.specs.List.{position};
 ghost use Rattle.service.specs.Laws.{FrameExact, OneAlteredByte};
 
-use crate::lengths::length_at;
+use crate::lengths::{Length, length_at};
 use crate::objects::count_objects;
 use layout::{Crc16, Reason, Refusal, checksum};
 
@@ -28,6 +29,7 @@ pub struct Header {
 }
 
 // The frame in the bytes of a run. Refused, in this order: tag or length, mark, checksum, objects, padding.
+#[tactic(auto, using(crate::proofs::FrameForms::frame_exact, crate::proofs::OneAltered::one_altered), unfolding(crate::specs::Frames::frame_in))]
 pub fn read_frame<'a>(run: &'a [u8]) -> Result<Frame<'a>, Refusal>
     ensures reads { frame_seen result ≡ frame_of run.now }
     ensures exact { FrameExact run.now }
@@ -50,35 +52,33 @@ pub fn read_frame<'a>(run: &'a [u8]) -> Result<Frame<'a>, Refusal>
 pub(crate) fn is_outer_tag(tag: u8) -> bool
     ensures { result ≡ outer tag }
 {
-    tag == 0xE0 || tag == 0x65
+    matches!(tag, 0xE0 | 0x65)
 }
 
 // The outer tag and the length.
 fn read_header(run: &[u8]) -> Result<Header, Refusal>
     ensures { result ≡ header_of run.now }
 {
-    if run.len() == 0 || !is_outer_tag(run[0]) {
-        return Err(Refusal::at(Reason::DataFrame, 0));
-    }
-    match length_at(run, 1) {
-        Some(length) => Ok(Header {
-            tag: run[0],
-            start: length.after,
-            end: length.after + length.count,
-        }),
-        None => Err(Refusal::at(Reason::DataFrame, 1)),
-    }
+    let tag = match run {
+        [tag, ..] if is_outer_tag(*tag) => *tag,
+        _ => return Err(Refusal::at(Reason::DataFrame, 0)),
+    };
+    let Length { after, count } = length_at(run, 1).ok_or(Refusal::at(Reason::DataFrame, 1))?;
+    Ok(Header {
+        tag,
+        start: after,
+        end: after + count,
+    })
 }
 
 // The mark and the checksum stand at the end of the content.
 fn judge_end(run: &[u8], end: usize) -> Result<(), Refusal>
     ensures { result ≡ end_judged run.now end }
 {
-    if run.len() < 4 || end > run.len() - 4 || run[end] != 0xC0 || run[end + 1] != 0x02 {
+    let Some([0xC0, 0x02, high, low, ..]) = run.get(end..) else {
         return Err(Refusal::at(Reason::DataFrame, end));
-    }
-    let sum = u16::from_be_bytes([run[end + 2], run[end + 3]]);
-    if sum != checksum::<Crc16>(&run[0..end + 2]) {
+    };
+    if u16::from_be_bytes([*high, *low]) != checksum::<Crc16>(&run[..end + 2]) {
         return Err(Refusal::at(Reason::DataChecksum, end + 2));
     }
     Ok(())
@@ -89,10 +89,15 @@ fn judge_padding(run: &[u8], from: usize) -> Result<(), Refusal>
     requires { from ≤ length run.now }
     ensures { result ≡ padding_judged run.now from }
 {
-    for at in from..run.len() {
-        if run[at] != 0 {
-            return Err(Refusal::at(Reason::DataPadding, at));
-        }
+    match first_used(&run[from..]) {
+        Some(after) => Err(Refusal::at(Reason::DataPadding, from + after)),
+        None => Ok(()),
     }
-    Ok(())
+}
+
+// The place of the first byte that is not 00.
+fn first_used(bytes: &[u8]) -> Option<usize>
+    ensures { result ≡ position used bytes.now }
+{
+    bytes.iter().position(|byte| *byte != 0)
 }

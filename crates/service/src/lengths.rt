@@ -13,23 +13,15 @@ pub struct Length {
 pub(crate) fn length_at(bytes: &[u8], at: usize) -> Option<Length>
     ensures { result ≡ length_at bytes.now at }
 {
-    if at >= bytes.len() {
-        return None;
-    }
-    match bytes[at] {
-        count @ 0..=0x7F => Some(Length {
+    match bytes.get(at..)? {
+        [count @ 0..=0x7F, ..] => Some(Length {
             after: at + 1,
-            count: count as usize,
+            count: usize::from(*count),
         }),
-        0x81 => {
-            if at + 1 >= bytes.len() {
-                return None;
-            }
-            Some(Length {
-                after: at + 2,
-                count: bytes[at + 1] as usize,
-            })
-        }
+        [0x81, count, ..] => Some(Length {
+            after: at + 2,
+            count: usize::from(*count),
+        }),
         _ => None,
     }
 }

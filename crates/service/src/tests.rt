@@ -10,16 +10,15 @@ const SAMPLE: [u8; 16] = [
     0xE0, 0x06, 0x5F, 0x20, 0x03, 0x01, 0x41, 0x42, 0xC0, 0x02, 0x51, 0x80, 0, 0, 0, 0,
 ];
 
-// A refusal's number and place; 0 and 0 for an answer.
-fn refused<T: Drop>(answer: Result<T, Refusal>) -> (u8, usize) {
-    match answer {
-        Ok(_) => (0, 0),
-        Err(refusal) => (refusal.number(), refusal.place),
-    }
+// A refusal's number and place.
+fn refused<T: Drop>(answer: Result<T, Refusal>) -> Option<(u8, usize)> {
+    answer
+        .err()
+        .map(|refusal| (refusal.number(), refusal.place))
 }
 
-fn check_run(run: &[u8], number: u8, place: usize) -> Result<(), Fail> {
-    check_eq(refused(read_frame(run)), (number, place))
+fn check_run(run: &[u8], expected: Option<(u8, usize)>) -> Result<(), Fail> {
+    check_eq(refused(read_frame(run)), expected)
 }
 
 // Fails unless two values are the same.
@@ -36,24 +35,23 @@ fn run_of(content: [u8; 4]) -> [u8; 16] {
     let [a, b, c, d] = content;
     let mut run = [0xE0, 0x04, a, b, c, d, 0xC0, 0x02, 0, 0, 0, 0, 0, 0, 0, 0];
     let sum = checksum::<Crc16>(&run[0..8]);
-    run[8] = (sum / 256) as u8;
-    run[9] = (sum % 256) as u8;
+    run[8..10].copy_from_slice(&sum.to_be_bytes());
     run
 }
 
-// Four content bytes, and the number and place of their refusal.
-const CONTENTS: [([u8; 4], u8, usize); 11] = [
-    ([0xC1, 0x02, 0x05, 0x00], 0, 0),
-    ([0xC1, 0x81, 0x01, 0x05], 0, 0),
-    ([0x1F, 0x00, 0x01, 0x05], 0, 0),
-    ([0xDF, 0x7F, 0x01, 0x05], 0, 0),
-    ([0xDF, 0x80, 0x01, 0x05], 15, 0),
-    ([0x00, 0x02, 0x05, 0x05], 15, 0),
-    ([0xC1, 0x03, 0x05, 0x05], 15, 0),
-    ([0xC1, 0x80, 0x05, 0x05], 15, 0),
-    ([0xC1, 0x00, 0x05, 0x05], 15, 0),
-    ([0xC1, 0x01, 0x05, 0x00], 15, 3),
-    ([0xC1, 0x01, 0x05, 0x1F], 15, 3),
+// Four content bytes, and the number and place of their refusal, if they are refused.
+const CONTENTS: [([u8; 4], Option<(u8, usize)>); 11] = [
+    ([0xC1, 0x02, 0x05, 0x00], None),
+    ([0xC1, 0x81, 0x01, 0x05], None),
+    ([0x1F, 0x00, 0x01, 0x05], None),
+    ([0xDF, 0x7F, 0x01, 0x05], None),
+    ([0xDF, 0x80, 0x01, 0x05], Some((15, 0))),
+    ([0x00, 0x02, 0x05, 0x05], Some((15, 0))),
+    ([0xC1, 0x03, 0x05, 0x05], Some((15, 0))),
+    ([0xC1, 0x80, 0x05, 0x05], Some((15, 0))),
+    ([0xC1, 0x00, 0x05, 0x05], Some((15, 0))),
+    ([0xC1, 0x01, 0x05, 0x00], Some((15, 3))),
+    ([0xC1, 0x01, 0x05, 0x1F], Some((15, 3))),
 ];
 
 // Runs of eight bytes, and the place of their refusal by 13.
@@ -74,36 +72,36 @@ fn frames(rt: HostRuntime) -> Result<(), Fail> {
     assert_eq!(rt; frame.objects, 1);
     assert_eq!(rt; count_objects(frame.content)?, 1);
     for (run, place) in HEADERS {
-        check_run(&run, 13, place)?;
+        check_run(&run, Some((13, place)))?;
     }
-    check_run(&[], 13, 0)?;
-    check_run(&[0xE0], 13, 1)?;
-    check_run(&[0x65, 0x81], 13, 1)?;
-    check_run(&SAMPLE[0..11], 13, 8)?;
-    check_run(&[0xE0, 0x00, 0xC0, 0x02, 0x36, 0x3C], 0, 0)?;
-    check_run(&[0xE0, 0x00, 0xC0, 0x02, 0x36], 13, 2)?;
+    check_run(&[], Some((13, 0)))?;
+    check_run(&[0xE0], Some((13, 1)))?;
+    check_run(&[0x65, 0x81], Some((13, 1)))?;
+    check_run(&SAMPLE[0..11], Some((13, 8)))?;
+    check_run(&[0xE0, 0x00, 0xC0, 0x02, 0x36, 0x3C], None)?;
+    check_run(&[0xE0, 0x00, 0xC0, 0x02, 0x36], Some((13, 2)))?;
     let mut run = SAMPLE;
     run[9] = 0x03;
-    check_run(&run, 13, 8)?;
+    check_run(&run, Some((13, 8)))?;
     run = SAMPLE;
     run[11] = 0x81;
-    check_run(&run, 14, 10)?;
+    check_run(&run, Some((14, 10)))?;
     run = SAMPLE;
     run[12] = 1;
     run[15] = 1;
-    check_run(&run, 16, 12)?;
+    check_run(&run, Some((16, 12)))?;
     run[12] = 0;
-    check_run(&run, 16, 15)?;
+    check_run(&run, Some((16, 15)))?;
     Ok(())
 }
 
 #[test]
 fn contents(rt: HostRuntime) -> Result<(), Fail> {
-    for (content, number, place) in CONTENTS {
-        check_run(&run_of(content), number, place)?;
+    for (content, expected) in CONTENTS {
+        check_run(&run_of(content), expected)?;
     }
-    assert_eq!(rt; refused(next_object(&[0xC1, 0x01, 0x05], 4)), (15, 4));
-    assert_eq!(rt; refused(next_object(&[0xC1, 0x01, 0x05], 1)), (15, 1));
+    assert_eq!(rt; refused(next_object(&[0xC1, 0x01, 0x05], 4)), Some((15, 4)));
+    assert_eq!(rt; refused(next_object(&[0xC1, 0x01, 0x05], 1)), Some((15, 1)));
     assert!(rt; next_object(&[0xC1, 0x01, 0x05], 3)?.is_none());
     match next_object(&[0x5F, 0x20, 0x03, 0x01, 0x41, 0x42], 0)? {
         Some(
@@ -127,9 +125,7 @@ fn contents(rt: HostRuntime) -> Result<(), Fail> {
 // A content of one object, that begins with these bytes.
 fn content_of(tag: u8, length: u8, more: u8) -> [u8; 256] {
     let mut content = [1u8; 256];
-    content[0] = tag;
-    content[1] = length;
-    content[2] = more;
+    content[..3].copy_from_slice(&[tag, length, more]);
     content
 }
 
@@ -138,12 +134,12 @@ fn check_written(content: &[u8], start: usize, blocks: u8) -> Result<(), Fail> {
     let mut run = [0xEE; 272];
     let written = write_frame(0x65, content, &mut run)?;
     check_eq(written, blocks)?;
-    let frame = read_frame(&run[0..16 * written as usize])?;
+    let frame = read_frame(&run[0..16 * usize::from(written)])?;
     check_eq(frame.tag, 0x65)?;
     check_eq(frame.start, start)?;
     check_eq(frame.content, content)?;
     if written < 17 {
-        check_eq(run[16 * written as usize], 0xEE)?;
+        check_eq(run[16 * usize::from(written)], 0xEE)?;
     }
     Ok(())
 }
@@ -157,15 +153,18 @@ fn writes(rt: HostRuntime) -> Result<(), Fail> {
     check_written(&content_of(0xC1, 126, 1)[0..128], 3, 9)?;
     check_written(&content_of(0xC1, 0x81, 252)[0..255], 3, 17)?;
     let mut run = [0xEE; 272];
-    assert_eq!(rt; refused(write_frame(0xE1, &[], &mut run)), (18, 0));
-    assert_eq!(rt; refused(write_frame(0xE0, &[0xC1], &mut run)), (19, 0));
+    assert_eq!(rt; refused(write_frame(0xE1, &[], &mut run)), Some((18, 0)));
+    assert_eq!(rt;
+        refused(write_frame(0xE0, &[0xC1], &mut run)),
+        Some((19, 0))
+    );
     assert_eq!(rt;
         refused(write_frame(0xE0, &[0xC1, 1, 5, 0], &mut run)),
-        (19, 3)
+        Some((19, 3))
     );
     assert_eq!(rt;
         refused(write_frame(0xE0, &content_of(0xC1, 0x81, 253), &mut run)),
-        (19, 255)
+        Some((19, 255))
     );
     assert_eq!(rt; run[0], 0xEE);
     Ok(())
