@@ -53,9 +53,7 @@ pub(crate) fn block_of(image: &Image, block: Block) -> [u8; 16]
     ensures { result ≡ blocks_of image.now block.0 }
 {
     let start = 16 * usize::from(block.0);
-    let mut bytes = [0u8; 16];
-    copy_bytes(&mut bytes, &image[start..start + 16]);
-    bytes
+    image[start..start + 16].try_into().unwrap()
 }
 
 // Replaces a block: lends its sixteen bytes to be copied into.

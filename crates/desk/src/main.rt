@@ -6,7 +6,7 @@ mod options;
 use calls::{is_passed_over, parse_call, perform, record_line, trim};
 use card::{Card, ImageCard, TearCard};
 use full_listing::{Input, input_of};
-use layout::Image;
+use layout::{Image, Profile};
 use options::Options;
 use station::Station;
 use std::io::{BufRead, BufReader, Write};
@@ -46,24 +46,23 @@ fn run(rt: &HostRuntime, input: Input, options: Options<'_>) -> anyhow::Result<I
     let Input { profile, mut image } = input;
     print!(rt; "{}", profile_line(rt.alloc(), profile)?)?;
     match options.plan {
-        Some(plan) => {
-            let card = TearCard::new(&mut image, plan);
-            let mut station = Station::new(profile, card, options.station, options.last);
-            answer_all(rt, &mut station)?;
-        }
-        None => {
-            let card = ImageCard::new(&mut image);
-            let mut station = Station::new(profile, card, options.station, options.last);
-            answer_all(rt, &mut station)?;
-        }
+        Some(plan) => answer_all(rt, profile, TearCard::new(&mut image, plan), options)?,
+        None => answer_all(rt, profile, ImageCard::new(&mut image), options)?,
     }
     Ok(image)
 }
 
-fn answer_all<C: Card>(rt: &HostRuntime, station: &mut Station<C>) -> io::Result<()> {
+// Answers the lines of standard input, one by one, on a station with a card.
+fn answer_all<C: Card + Drop>(
+    rt: &HostRuntime,
+    profile: Profile,
+    card: C,
+    options: Options<'_>,
+) -> io::Result<()> {
+    let mut station = Station::new(profile, card, options.station, options.last);
     for line in BufReader::new(rt.alloc(), rt.stdin())?.split(rt.alloc(), b'\n') {
         let line = line?;
-        answer(rt, station, trim(line.as_slice()))?;
+        answer(rt, &mut station, trim(line.as_slice()))?;
     }
     Ok(())
 }
