@@ -65,6 +65,7 @@ pub(crate) fn put_block(image: &mut Image, block: Block, bytes: &[u8; 16])
     copy_bytes(&mut image[start..start + 16], bytes);
 }
 
+// The project fixes how a write reaches the image: it is lent whole, and then sixteen bytes of it are.
 fn copy_bytes(to: &mut [u8], from: &[u8])
     requires { length to.old ≡ length from.now }
     ensures { to.new ≡ from.now }

@@ -21,7 +21,7 @@ impl fmt::Display for Gone {
 
 impl Error for Gone {}
 
-// What a lay answers: whether the card that was first laid on is on the reader again.
+// What a lay answers: whether the card that was first laid on is on the reader again. An enum of its own and no `bool`, so that a call reads as what it asks.
 #[derive(Clone, Copy, PartialEq, Eq, Debug)]
 pub enum Laid {
     Yes,

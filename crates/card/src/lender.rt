@@ -1,4 +1,4 @@
-// What the lender of an image knows of it once a card has worked in it: what was written is there, whether the card was called here or by a generic function.
+// What the lender of an image knows of it once a card has worked in it: what was written is there, whether the card was called here or by a generic function. Each way of calling has a function of its own, since each is a promise of its own.
 ghost use Rattle.std.specs.Prelude.{◌≡◌, true, is_ok};
 ghost use Rattle.card.specs.Answers.{WriteSays};
 ghost use Rattle.card.specs.Blocks.{put, blocks_of};

@@ -22,6 +22,7 @@ impl Directory {
         requires { n ≤ 256 }
         ensures { result ≡ count_of (free_block self.now) n }
     {
+        // `as` twice, since it is proved that nothing is lost, and `try_from` could fail
         (0..n).filter(|b| self.is_free(Block(*b as u8))).count() as u16
     }
 

@@ -48,6 +48,7 @@ pub(crate) fn read_sealed<C: Card>(
     requires few { run.length ≤ 3 }
     ensures { Taken C.Card (sealed_look reason run.start.0 run.length) card.old card.new result }
 {
+    // fixed memory, for there is no heap here: a shorter directory is followed by zeros
     let mut bytes = [0u8; 48];
     read_run(card, run, &mut bytes)?;
     if !is_sealed(&bytes[0..16 * usize::from(run.length)]) {

@@ -31,6 +31,7 @@ fn fill_from_run<C: Card>(card: &mut C, run: Run, buffer: &mut [u8]) -> Result<(
     requires room { 16 * run.length ≤ length buffer.old }
     ensures { Filled C.Card (run_touches run.start.0 run.length) card.old card.new buffer.old buffer.new result }
 {
+    // A zip with the buffer's chunks is no plainer: what the buffer holds when the card goes could then be said only by the parts given out so far.
     for i in 0..run.length {
         let block = run.block(i).unwrap();
         let bytes = read_block(card, block)?;

@@ -10,7 +10,7 @@ use station::Station;
 use std::alloc::{AllocError, Global};
 use text::refused_line;
 
-// The record's text, each line ended, and whether nothing is refused: neither the input nor the card.
+// The record's text, each line ended, and whether nothing is refused: neither the input nor the card. A flag beside the text and no `Result`, since the text is printed either way.
 #[derive(Drop)]
 pub struct Listing {
     pub text: String,

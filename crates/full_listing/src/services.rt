@@ -10,7 +10,7 @@ use station::{Reading, Station};
 use std::alloc::{AllocError, Global};
 use text::{refused_line, slot_words};
 
-// How many bytes a buffer has that holds any run.
+// How many bytes a buffer has that holds any run. A fixed one spares each reading an allocation that could fail.
 const ANY_RUN: usize = 4096;
 
 // A line for each used slot.

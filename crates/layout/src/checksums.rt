@@ -33,6 +33,8 @@ pub trait ChecksumKind {
     ghost shows: { (s : Self.State) (b c : ℕ) → fits s → b < 256 → c < 256 → step s b ≡ step s c → b ≡ c };
 }
 
+// The two kinds are impls of one trait over one `step_by`, and not one type over constants, since their registers differ in type.
+
 // The 8-bit kind, of directories: start C7, polynomial 1D.
 pub struct Crc8;
 
@@ -59,6 +61,7 @@ impl ChecksumKind for Crc8 {
     ghost shows = { stepped_shows 8 0x1D register8 refl };
 
     fn update(state: u8, byte: u8) -> u8 {
+        // `as`, since it is proved that nothing is lost, and `try_from` could fail
         step_by(8, 0x1D, u16::from(state), byte) as u8
     }
 }
@@ -106,7 +109,7 @@ fn step_by(width: u8, polynomial: u16, state: u16, byte: u8) -> u16
     register
 }
 
-// The checksum of some bytes.
+// The checksum of some bytes. The project fixes this form of the fold, a `for` over the bytes.
 pub fn checksum<K: ChecksumKind>(bytes: &[u8]) -> K::State
     ensures value { result ≡ fold K.step K.START bytes.now }
     ensures shows { (ys : List ℕ) → Bytes ys → DifferInOne bytes.now ys → fold K.step K.START ys ≢ result }

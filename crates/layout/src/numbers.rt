@@ -1,4 +1,4 @@
-// The three numberings of a card. Each is a type of its own, so that none is taken for another.
+// The three numberings of a card. Each is a type of its own, so that none is taken for another; the project fixes the three types.
 
 // A sector: 0 to 39 on a card.
 #[derive(Clone, Copy, PartialEq, Eq, Debug)]

@@ -69,6 +69,7 @@ impl Refusal {
     pub fn number(self) -> u8
         ensures { result ≡ number_of self.reason }
     {
+        // `as` reads the number that the enum declares
         self.reason as u8
     }
 }

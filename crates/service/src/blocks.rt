@@ -10,5 +10,6 @@ pub fn blocks_for(content: u8) -> u8
 {
     let header: u16 = if content <= 0x7F { 2 } else { 3 };
     let bytes = header + u16::from(content) + 4;
+    // `as`, since it is proved that nothing is lost, and `try_from` could fail
     bytes.div_ceil(16) as u8
 }

@@ -4,6 +4,7 @@ ghost use Rattle.std.specs.Prelude.{◌≡◌};
 use card::Card;
 use layout::Profile;
 
+// What a call leaves of it is said in each call's contract (`with_card`): no ghost field can tie what was to what is.
 // `number` is the station's own, and `last_job` the number of the last job that it handed out.
 #[derive(Drop)]
 pub struct Station<C> {
