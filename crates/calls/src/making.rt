@@ -1,4 +1,4 @@
-// Calls made on a station, and their answers as text.
+// Calls made on a station, and their answers as text. Allocator and station stay two parameters: a struct of both would have to hold the station by `&mut` for the length of one call.
 ghost use Rattle.std.specs.Prelude.{◌≡◌, ◌≤◌, length, replicate};
 ghost use Rattle.calls.specs.Performs.{FindSaid, ReadSaid, LaySaid, Said};
 

@@ -28,6 +28,7 @@ pub enum Laid {
     No,
 }
 
+// A block and its new bytes stay two parameters of a write, as the layout speaks of them; only a write has both.
 pub trait Card {
     // what it holds
     ghost blocks: { Self → Blocks };

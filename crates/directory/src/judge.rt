@@ -1,4 +1,4 @@
-// The first judgements of a card: the trailer of its application directory, and then that directory.
+// The first judgements of a card: the trailer of its application directory, and then that directory. Card and profile stay two parameters: the card is borrowed for each reading, and a profile is nothing of a card.
 ghost use Rattle.std.specs.Prelude.{◌≡◌, ◌≤◌, true};
 ghost use Rattle.layout.specs.Runs.{on_card};
 ghost use Rattle.directory.specs.Judged.{trailer_judged, trailer_look, sealed_look, mad_look};

@@ -61,7 +61,7 @@ impl Applications {
 }
 
 impl Item {
-    // Whether the item's tag names one block.
+    // Whether the item's tag names one block. This and the next are the layout's two sets of tags; one function over a set would only move the sets to its callers.
     pub(crate) fn names_block(self) -> bool
         ensures { result ≡ names_block self.tag }
     {

@@ -1,4 +1,4 @@
-// The listing of one card.
+// The listing of one card. Allocator and station stay two parameters: a struct of both would have to hold the station by `&mut` for the length of one call.
 ghost use Rattle.std.specs.Prelude.{◌≡◌, ◌++◌, is_ok, IfOk, string_bytes};
 ghost use Rattle.directory.specs.Checks.{verdict as verdict_of};
 ghost use Rattle.directory.specs.Slots.{free_blocks};
