@@ -7,7 +7,7 @@ use Rattle.layout.specs.declared.numbers.Sector.{Sector}
 use Rattle.layout.specs.declared.profiles.Profile.{Profile}
 use Rattle.layout.specs.declared.refusals.Reason.TheVariants.{NscpSector, NscpItem}
 use Rattle.directory.specs.Entries.{aid_at, item_at}
-use Rattle.directory.specs.Searches.{any_of, count_of, lowest_of}
+use Rattle.directory.specs.Searches.{any_of, count_of, lowest_of, first_judged}
 use Rattle.directory.specs.declared.entries.Aid.{Aid}
 use Rattle.directory.specs.declared.entries.Item.{Item}
 
@@ -58,10 +58,9 @@ wrong_as nscp i (Some it) = item_wrong it || any_of (λ j. tag_is it.tag (item_a
 unfoldable pub wrong_item : List ℕ → ℕ → Bool
 wrong_item nscp i = wrong_as nscp i (item_at nscp i)
 
--- the first wrong item decides; items count from 1
+-- the first wrong item decides
 abbrev pub first_item_judged : Option ℕ → Answer (Unit {0})
-first_item_judged None = Ok tt
-first_item_judged (Some i) = refuse NscpItem (i + 1)
+first_item_judged = first_judged NscpItem
 
 -- the header is 00, and then no item is wrong
 abbrev pub nscp_judged : List ℕ → Answer (Unit {0})

@@ -7,7 +7,7 @@ use Rattle.layout.specs.Runs.{run_block, on_card, runs_meet}
 use Rattle.layout.specs.declared.refusals.Reason.TheVariants.{ServicesSlot}
 use Rattle.directory.specs.Entries.{item_at, slot_at}
 use Rattle.directory.specs.Nscp.{names_sector}
-use Rattle.directory.specs.Searches.{any_of, count_of, lowest_of}
+use Rattle.directory.specs.Searches.{any_of, count_of, lowest_of, first_judged}
 use Rattle.directory.specs.Services.{listed_otherwise}
 use Rattle.directory.specs.declared.accepted.Directory.{Directory}
 use Rattle.directory.specs.declared.entries.Item.{Item}
@@ -67,10 +67,9 @@ lower None b = b
 lower (Some a) None = Some a
 lower (Some a) (Some b) = Some (min a b)
 
--- the lowest wrong slot decides, for whatever reason it is wrong; slots count from 1
+-- the lowest wrong slot decides, for whatever reason it is wrong
 abbrev pub first_slot_judged : Option ℕ → Answer (Unit {0})
-first_slot_judged None = Ok tt
-first_slot_judged (Some i) = refuse ServicesSlot (i + 1)
+first_slot_judged = first_judged ServicesSlot
 
 -- the three bytes of the header are 00
 abbrev pub header_clear : List ℕ → Bool

@@ -3,6 +3,7 @@ ghost use Rattle.std.specs.Prelude.{◌≡◌, ◌≤◌, true};
 ghost use Rattle.layout.specs.Runs.{on_card};
 ghost use Rattle.directory.specs.Judged.{trailer_judged, trailer_look, sealed_look, mad_look};
 ghost use Rattle.directory.specs.Looks.{Taken};
+ghost use Rattle.directory.specs.Searches.{first_judged};
 
 use crate::reading::{read_block, read_run};
 use crate::seal::is_sealed;
@@ -11,6 +12,16 @@ use layout::{Profile, Reason, Refusal, Run};
 
 // Where the general purpose byte stands in a trailer.
 const GENERAL_PURPOSE: usize = 9;
+
+// The first wrong place of a directory is refused, counted from 1.
+pub(crate) fn judge_first(first: Option<u8>, reason: Reason) -> Result<(), Refusal>
+    ensures { result ≡ first_judged reason first }
+{
+    match first {
+        Some(i) => Err(Refusal::at(reason, usize::from(i) + 1)),
+        None => Ok(()),
+    }
+}
 
 // The trailer's general purpose byte is the one of the profile's application directory.
 pub(crate) fn judge_trailer(profile: Profile, trailer: &[u8; 16]) -> Result<(), Refusal>

@@ -7,6 +7,7 @@ ghost use Rattle.directory.specs.Searches.{any_of, count_of, lowest_of};
 
 use crate::accepted::{Applications, Nscp};
 use crate::entries::{Aid, Item, entry_of};
+use crate::judge::judge_first;
 use layout::{Reason, Refusal, Sector};
 
 // The application identifier of the NSCP directory's sector.
@@ -102,10 +103,7 @@ impl Nscp {
         if self.bytes[1] != 0 {
             return Err(Refusal::at(Reason::NscpItem, 0));
         }
-        match self.first_wrong() {
-            Some(i) => Err(Refusal::at(Reason::NscpItem, usize::from(i) + 1)),
-            None => Ok(()),
-        }
+        judge_first(self.first_wrong(), Reason::NscpItem)
     }
 
     #[tactic(auto, unfolding(crate::specs::Searches::lowest_of))]

@@ -43,10 +43,8 @@ impl Applications {
         ensures { result ≡ listed_otherwise self.now.profile self.now.bytes sector.0 }
     {
         let mad = self.profile.mad();
-        match sector.0.checked_sub(mad.first_listed.0) {
-            Some(i) => i < mad.listed && !self.has_aid(i, SERVICES),
-            None => false,
-        }
+        let place = sector.0.checked_sub(mad.first_listed.0);
+        place.is_some_and(|i| i < mad.listed && !self.has_aid(i, SERVICES))
     }
 }
 

@@ -7,6 +7,7 @@ ghost use Rattle.directory.specs.Slots.{names, service_sector, service_block, no
 
 use crate::accepted::{Directory, Nscp, Services};
 use crate::entries::{Item, Slot, entry_of};
+use crate::judge::judge_first;
 use crate::nscp::ITEMS;
 use layout::{Block, Reason, Refusal, Run, Sector};
 
@@ -53,10 +54,8 @@ impl Directory {
         if !self.services.is_header_clear() {
             return Err(Refusal::at(Reason::ServicesSlot, 0));
         }
-        match lower_of(self.first_wrong(), self.services.first_shared()) {
-            Some(i) => Err(Refusal::at(Reason::ServicesSlot, usize::from(i) + 1)),
-            None => Ok(()),
-        }
+        let first = lower_of(self.first_wrong(), self.services.first_shared());
+        judge_first(first, Reason::ServicesSlot)
     }
 
     // The lowest slot that is wrong by itself or has an earlier one's number.
@@ -98,10 +97,7 @@ impl Directory {
     fn is_no_service(&self, run: Run, k: u8) -> bool
         ensures { result ≡ no_service self.now (run_block run.start.0 run.length k) }
     {
-        match run.block(k) {
-            Some(block) => !self.is_service(block),
-            None => true,
-        }
+        run.block(k).is_none_or(|block| !self.is_service(block))
     }
 }
 

@@ -34,6 +34,7 @@ impl Run {
         ensures value { result ≡ on_card self.start.0 self.length }
         ensures each { Decides result (OnCard self.start.0 self.length) }
     {
+        // a `match`, since with `is_some_and` the proof did not close
         match self.start.rank() {
             Some(first) => u16::from(first.0) + u16::from(self.length) <= DATA_BLOCKS,
             None => false,
