@@ -62,11 +62,9 @@ fn service_line(
 ) -> Result<String, AllocError>
     ensures { IfOk result (λ s. string_bytes s ≡ service_line slot reading) }
 {
-    let mut line = slot_words(heap, slot)?;
-    let words = reading_words(heap, reading)?;
-    line.push_str(" ")?;
-    line.push_str(words.as_str())?;
-    Ok(line)
+    let words = slot_words(heap, slot)?;
+    let answer = reading_words(heap, reading)?;
+    format!(in heap; "{words} {answer}")
 }
 
 fn reading_words(heap: Global, reading: Result<Reading, Refusal>) -> Result<String, AllocError>

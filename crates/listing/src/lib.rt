@@ -113,9 +113,8 @@ fn slot_text(heap: Global, slot: Option<Slot>) -> Result<String, AllocError>
 fn slot_line(heap: Global, slot: Slot) -> Result<String, AllocError>
     ensures { IfOk result (λ s. string_bytes s ≡ slot_line slot) }
 {
-    let mut line = slot_words(heap, slot)?;
-    line.push_str("\n")?;
-    Ok(line)
+    let words = slot_words(heap, slot)?;
+    format!(in heap; "{words}\n")
 }
 
 #[cfg(test)]
