@@ -117,6 +117,3 @@ fn slot_line(heap: Global, slot: Slot) -> Result<String, AllocError>
     line.push_str("\n")?;
     Ok(line)
 }
-
-#[cfg(test)]
-mod tests;

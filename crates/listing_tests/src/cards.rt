@@ -11,12 +11,12 @@ pub(crate) const DATA: [u8; 12] = [
 // Bytes to change, each with its offset.
 pub(crate) type Edits = &'static [(usize, u8)];
 
-// An image of zeros that names the NSCP application in each pair of these bytes.
-fn naming_nscp(places: Range<usize>) -> Image {
+// An image of zeros, but for the identifier 4012 in each pair of bytes of one part.
+fn with_4012(part: Range<usize>) -> Image {
     let mut image = [0u8; 4096];
-    if let Some(entries) = image.get_mut(places) {
-        for entry in entries.chunks_exact_mut(2) {
-            entry.copy_from_slice(&[0x12, 0x40]);
+    if let Some(identifiers) = image.get_mut(part) {
+        for identifier in identifiers.chunks_exact_mut(2) {
+            identifier.copy_from_slice(&[0x12, 0x40]);
         }
     }
     image
@@ -25,7 +25,7 @@ fn naming_nscp(places: Range<usize>) -> Image {
 // A card of profile A with one service: block 1 and 2 the MAD, block 3 its trailer, block 4 the NSCP directory, block 8 the services directory, block 12 the service, which holds no data.
 pub(crate) fn bare_sample() -> Image {
     broken(
-        naming_nscp(16..48),
+        with_4012(16..48),
         &[
             (16, 0x8F),
             (17, 0x00),
@@ -53,7 +53,7 @@ pub(crate) fn sample() -> Image {
 // A card of profile D: MAD2 in blocks 64 to 66, NSCP in sector 17, services in sector 18. Some of its bytes are changed, and then its directories are sealed.
 pub(crate) fn sample_d(edits: Edits) -> Image {
     let card = broken(
-        naming_nscp(1026..1072),
+        with_4012(1026..1072),
         &[(1026, 0x11), (1081, 0xC2), (1090, 0xCF), (1091, 72)],
     );
     sealed(broken(card, edits), [1024..1072, 1088..1136, 1152..1200])

@@ -1,33 +1,41 @@
-// Each way in which the directories of a card are refused, for both listings: each gives its own sample card, and a judge of a card under a profile letter.
+// Each way in which the directories of a card are refused, tried on both listings.
 use crate::cards::{Edits, altered, broken, refused, sample_d};
 use card::{Plan, TearCard, Torn};
 use directory::{Directory, check_card};
 use layout::{Image, Profile, Refusal};
 use std::process::Abort;
 
-pub(crate) fn check_applications<F: Fn(&str, &Image) -> Result<Directory, Refusal>>(
-    rt: &impl Abort,
-    card: Image,
-    judge: F,
-)
-    requires { F.IsAlwaysCallable judge }
-{
+// A listing that is tried: its sample card, and how it judges a card under a profile letter.
+pub(crate) trait Tried {
+    fn sample() -> Image;
+
+    fn judge(letter: &str, image: &Image) -> Result<Directory, Refusal>;
+}
+
+pub(crate) fn check_applications<T: Tried>(rt: &impl Abort) {
+    let card = T::sample();
     let cases = [
-        ("A", altered(card, &[]), None),
-        ("D", sample_d(&[]), None),
-        ("A", broken(card, &[(57, 0xC2)]), Some((3, 3))),
-        ("D", sample_d(&[(1081, 0xC1)]), Some((3, 67))),
-        ("A", broken(card, &[(17, 1)]), Some((4, 1))),
-        ("A", altered(card, &[(18, 0x12)]), Some((5, 0))),
-        ("A", altered(card, &[(20, 0x11)]), Some((5, 0))),
-        ("D", sample_d(&[(1026, 0x12), (1056, 0x11)]), Some((5, 0))),
+        ("A", altered(card, &[]), None, "accepted"),
+        ("D", sample_d(&[]), None, "accepted in profile D"),
+        ("A", broken(card, &[(57, 0xC2)]), Some((3, 3)), "trailer"),
+        (
+            "D",
+            sample_d(&[(1081, 0xC1)]),
+            Some((3, 67)),
+            "trailer in profile D",
+        ),
+        ("A", broken(card, &[(17, 1)]), Some((4, 1)), "checksum"),
+        ("A", altered(card, &[(18, 0x12)]), Some((5, 0)), "no 4011"),
+        ("A", altered(card, &[(20, 0x11)]), Some((5, 0)), "two 4011"),
+        (
+            "D",
+            sample_d(&[(1026, 0x12), (1056, 0x11)]),
+            Some((5, 0)),
+            "4011 past sector 31",
+        ),
     ];
-    for (letter, image, refusal) in cases {
-        assert_eq!(rt;
-            refused(judge(letter, &image)),
-            refusal,
-            "application directory"
-        );
+    for (letter, image, refusal, words) in cases {
+        assert_eq!(rt; refused(T::judge(letter, &image)), refusal, "{words}");
     }
 }
 
@@ -47,18 +55,13 @@ const NSCP: [(Edits, &str, (u8, usize)); 12] = [
     (&[(68, 0xC0), (69, 9)], "another item there", (8, 8)),
 ];
 
-pub(crate) fn check_nscp<F: Fn(&str, &Image) -> Result<Directory, Refusal>>(
-    rt: &impl Abort,
-    card: Image,
-    judge: F,
-)
-    requires { F.IsAlwaysCallable judge }
-{
-    let torn = broken(card, &[(111, 1)]);
-    assert_eq!(rt; refused(judge("A", &torn)), Some((6, 4)), "checksum");
+pub(crate) fn check_nscp<T: Tried>(rt: &impl Abort) {
+    let card = T::sample();
+    let unsealed = broken(card, &[(111, 1)]);
+    assert_eq!(rt; refused(T::judge("A", &unsealed)), Some((6, 4)), "checksum");
     for (edits, wrong, refusal) in NSCP {
         let image = altered(card, edits);
-        assert_eq!(rt; refused(judge("A", &image)), Some(refusal), "{wrong}");
+        assert_eq!(rt; refused(T::judge("A", &image)), Some(refusal), "{wrong}");
     }
 }
 
@@ -87,21 +90,20 @@ const SLOTS: [(Edits, &str, (u8, usize)); 9] = [
     ),
 ];
 
-pub(crate) fn check_services<F: Fn(&str, &Image) -> Result<Directory, Refusal>>(
-    rt: &impl Abort,
-    card: Image,
-    judge: F,
-)
-    requires { F.IsAlwaysCallable judge }
-{
-    let torn = broken(card, &[(175, 1)]);
-    assert_eq!(rt; refused(judge("A", &torn)), Some((9, 8)), "checksum");
+pub(crate) fn check_services<T: Tried>(rt: &impl Abort) {
+    let card = T::sample();
+    let unsealed = broken(card, &[(175, 1)]);
+    assert_eq!(rt; refused(T::judge("A", &unsealed)), Some((9, 8)), "checksum");
     for (edits, wrong, refusal) in SLOTS {
         let image = altered(card, edits);
-        assert_eq!(rt; refused(judge("A", &image)), Some(refusal), "{wrong}");
+        assert_eq!(rt; refused(T::judge("A", &image)), Some(refusal), "{wrong}");
     }
     let past = sample_d(&[(1156, 1), (1158, 253), (1159, 3)]);
-    assert_eq!(rt; refused(judge("D", &past)), Some((10, 1)), "past rank 215");
+    assert_eq!(rt;
+        refused(T::judge("D", &past)),
+        Some((10, 1)),
+        "past rank 215"
+    );
 }
 
 // A plan that goes after so many reads, and says no to so many lays.
@@ -122,7 +124,8 @@ fn leaving(mut image: Image, answers: u32) -> Option<(u8, usize)> {
 // The blocks that the check of the sample reads, in their order.
 const CHECKED: [usize; 9] = [3, 1, 2, 4, 5, 6, 8, 9, 10];
 
-pub(crate) fn check_leaving(rt: &impl Abort, card: Image) {
+pub(crate) fn check_leaving<T: Tried>(rt: &impl Abort) {
+    let card = T::sample();
     for (answers, block) in (0..9u32).zip(CHECKED) {
         assert_eq!(rt; leaving(card, answers), Some((2, block)));
     }

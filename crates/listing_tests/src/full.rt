@@ -1,6 +1,8 @@
 // The listing that reads services: the sample card, each way in which an input, a card or a service is refused, and a card that leaves.
 use crate::cards::{DATA, Edits, altered, broken, refused, sample};
-use crate::directories::{check_applications, check_leaving, check_nscp, check_services, going};
+use crate::directories::{
+    Tried, check_applications, check_leaving, check_nscp, check_services, going,
+};
 use card::{Card, ImageCard, Laid, TearCard};
 use directory::{Directory, check_card};
 use full_listing::list;
@@ -94,33 +96,41 @@ fn service_lines(rt: HostRuntime) -> Result<(), Fail> {
     Ok(())
 }
 
-// The directory check of an image.
-fn judge(letter: &str, image: &Image) -> Result<Directory, Refusal> {
-    let profile = letter.parse::<Profile>()?;
-    let mut bytes = *image;
-    let mut card = ImageCard::new(&mut bytes);
-    check_card(&mut card, profile)
+// The directory check alone: the listing's text does not have a refusal's place.
+struct Check;
+
+impl Tried for Check {
+    fn sample() -> Image {
+        sample()
+    }
+
+    fn judge(letter: &str, image: &Image) -> Result<Directory, Refusal> {
+        let profile = letter.parse::<Profile>()?;
+        let mut bytes = *image;
+        let mut card = ImageCard::new(&mut bytes);
+        check_card(&mut card, profile)
+    }
 }
 
 #[test]
 fn application_directory(rt: HostRuntime) {
-    assert_eq!(rt; refused(judge("F", &sample())), Some((1, 0)));
-    check_applications(&rt, sample(), judge);
+    assert_eq!(rt; refused(Check::judge("F", &sample())), Some((1, 0)));
+    check_applications::<Check>(&rt);
 }
 
 #[test]
 fn nscp_directory(rt: HostRuntime) {
-    check_nscp(&rt, sample(), judge);
+    check_nscp::<Check>(&rt);
 }
 
 #[test]
 fn services_directory(rt: HostRuntime) {
-    check_services(&rt, sample(), judge);
+    check_services::<Check>(&rt);
 }
 
 #[test]
 fn a_card_that_leaves(rt: HostRuntime) {
-    check_leaving(&rt, sample());
+    check_leaving::<Check>(&rt);
 }
 
 // A buffer of five blocks whose first `blocks` were read: the data, 00 after it, and then the old bytes.

@@ -1,6 +1,6 @@
 // The lister's listing: the sample card, and each way in which an input or a card is refused.
 use crate::cards::{bare_sample, broken};
-use crate::directories::{check_applications, check_leaving, check_nscp, check_services};
+use crate::directories::{Tried, check_applications, check_leaving, check_nscp, check_services};
 use directory::Directory;
 use layout::{Image, Refusal};
 use listing::{is_accepted, list, record_of};
@@ -45,27 +45,35 @@ fn records(rt: HostRuntime) -> Result<(), Fail> {
     Ok(())
 }
 
-// The listing's answer to an image.
-fn judge(letter: &str, image: &Image) -> Result<Directory, Refusal> {
-    list(letter, image)?.verdict
+// What the lister makes of a card.
+struct Lister;
+
+impl Tried for Lister {
+    fn sample() -> Image {
+        bare_sample()
+    }
+
+    fn judge(letter: &str, image: &Image) -> Result<Directory, Refusal> {
+        list(letter, image)?.verdict
+    }
 }
 
 #[test]
 fn application_directory(rt: HostRuntime) {
-    check_applications(&rt, bare_sample(), judge);
+    check_applications::<Lister>(&rt);
 }
 
 #[test]
 fn nscp_directory(rt: HostRuntime) {
-    check_nscp(&rt, bare_sample(), judge);
+    check_nscp::<Lister>(&rt);
 }
 
 #[test]
 fn services_directory(rt: HostRuntime) {
-    check_services(&rt, bare_sample(), judge);
+    check_services::<Lister>(&rt);
 }
 
 #[test]
 fn a_card_that_leaves(rt: HostRuntime) {
-    check_leaving(&rt, bare_sample());
+    check_leaving::<Lister>(&rt);
 }
