@@ -10,12 +10,10 @@ const OTHER: [u8; 16] = [9; 16];
 
 // A read as one letter: the old bytes, the new, others, or gone.
 fn read<C: Card>(card: &mut C) -> u8 {
-    match card.read(Block(5)) {
-        Ok(bytes) => match bytes[3] {
-            0 => b'o',
-            7 => b'n',
-            _ => b'?',
-        },
+    match card.read(Block(5)).map(|bytes| bytes[3]) {
+        Ok(0) => b'o',
+        Ok(7) => b'n',
+        Ok(_) => b'?',
         Err(Gone) => b'-',
     }
 }
@@ -60,16 +58,20 @@ fn torn_at(answers: u32, torn: Torn) -> [u8; 6] {
 #[test]
 fn both_cards_by_one_table(rt: HostRuntime) {
     let table = [
-        (torn_at(0, Torn::Old), b"---xyo"),
-        (torn_at(1, Torn::Old), b"o--xyo"),
-        (torn_at(1, Torn::New), b"o--xyn"),
-        (torn_at(1, Torn::Other(OTHER)), b"o--xy?"),
-        (torn_at(2, Torn::Old), b"od-xyn"),
-        (torn_at(3, Torn::Old), b"odnyy-"),
-        (torn_at(4, Torn::Old), b"odnyyn"),
+        (0, Torn::Old, b"---xyo"),
+        (1, Torn::Old, b"o--xyo"),
+        (1, Torn::New, b"o--xyn"),
+        (1, Torn::Other(OTHER), b"o--xy?"),
+        (2, Torn::Old, b"od-xyn"),
+        (3, Torn::Old, b"odnyy-"),
+        (4, Torn::Old, b"odnyyn"),
     ];
-    for (row, expected) in table {
-        assert_eq!(rt; row, *expected);
+    for (answers, torn, expected) in table {
+        assert_eq!(rt;
+            torn_at(answers, torn),
+            *expected,
+            "after {answers} answers"
+        );
     }
     let mut image = [0u8; 4096];
     let mut card = ImageCard::new(&mut image);

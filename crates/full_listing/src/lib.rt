@@ -8,6 +8,3 @@ pub mod services;
 
 pub use images::{Listing, list};
 pub use input::{Input, input_of};
-
-#[cfg(test)]
-mod tests;

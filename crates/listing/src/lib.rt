@@ -116,6 +116,3 @@ fn slot_line(heap: Global, slot: Slot) -> Result<String, AllocError>
     let words = slot_words(heap, slot)?;
     format!(in heap; "{words}\n")
 }
-
-#[cfg(test)]
-mod tests;
