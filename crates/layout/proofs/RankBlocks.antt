@@ -1,5 +1,5 @@
 -- Ranks and data blocks, each rule from a test at every block. Assumes nothing.
-use Rattle.std.proofs.Common.{◌≡◌, ℕ, ◌+◌, ◌-◌, ◌/◌, ◌<◌, ◌≤◌, Bool, true, false, not, ◌&&◌, ◌||◌, eqb, leb, is_some, Some, None, Option, sym, refl, ap, subst, ⊎_elim, MatchOption}
+use Rattle.std.proofs.Common.{◌≡◌, ℕ, ◌+◌, ◌-◌, ◌/◌, ◌<◌, ◌≤◌, Bool, true, false, not, ◌&&◌, ◌||◌, eqb, leb, is_some, Some, None, Option, sym, refl, ap, subst, ⊎_elim, MatchOption, arith}
 use Rattle.std.specs.Option.{option_map}
 use Rattle.std.proofs.lemmas.Bool.{eqb-true, leb-true, and_parts, not-true, or_cases, both_ways}
 use Rattle.std.proofs.lemmas.Option.{slice_get_past}
@@ -55,6 +55,9 @@ from_block b h e = record {
   rank = refl;
   block = ⊎_elim (λ t. absurd (both_ways _ e t)) (holds_some _ b) (or_cases (trailer b) _ (all_back b h));
 }
+
+pub ranked_here : (b : ℕ) → b < 256 → trailer b ≡ false → Ranked b (b - sector_of b)
+ranked_here b h plain = subst (Ranked b) (sym (rank_is b h)) (from_block b h plain)
 
 -- every rank up to 215 has a block
 pub block_there : (k : ℕ) → k < 216 → is_some (data_block k) ≡ true
