@@ -1,22 +1,14 @@
 -- The blocks of a run. Assumes nothing.
 use Rattle.std.proofs.Common.{◌≡◌, ℕ, ◌+◌, ◌-◌, ◌<◌, ◌≤◌, Bool, true, false, not, ◌&&◌, ltb, leb, is_some, Some, None, Decides, sym, refl, ap, ◌∙◌, ⊎_elim, add-zero, arith}
+use Rattle.std.proofs.lemmas.Grind.{common_steps}
 use Rattle.std.proofs.lemmas.Bool.{lt-ltb, le-ltb, cond-true, cond-false, and_from, and_left, and_right, not_from_true, not_from_false, cases_lt, false≢true, and_parts, ltb-true}
 use Rattle.layout.specs.Blocks.{trailer, rank_of, data_block}
 use Rattle.layout.specs.Runs.{run_block, on_card, OnCard, runs_meet, Shared}
 use Rattle.layout.proofs.RankBlocks.{past_block, block_there, rank_le, from_rank, from_block}
 
-module _ (start n i : ℕ) where
-  pub run_block_past : n ≤ i → run_block start n i ≡ None
-  unfolding run_block
-  run_block_past h = cond-false _ _ _ (and_left (ltb i n) (not (trailer start)) (le-ltb i n h))
-
-  pub run_block_trailer : trailer start ≡ true → run_block start n i ≡ None
-  unfolding run_block
-  run_block_trailer t = cond-false _ _ _ (and_right (ltb i n) (not (trailer start)) (not_from_true _ t))
-
-  pub run_block_rank : i < n → trailer start ≡ false → run_block start n i ≡ data_block (rank_of start + i)
-  unfolding run_block
-  run_block_rank h plain = cond-true _ _ _ (and_from (ltb i n) (not (trailer start)) (lt-ltb i n h) (not_from_false _ plain))
+pub run_block_rank : (start n i : ℕ) → i < n → trailer start ≡ false → run_block start n i ≡ data_block (rank_of start + i)
+unfolding run_block
+run_block_rank start n i h plain = grind (arith, common_steps)
 
 module _ (start n : ℕ) (plain : trailer start ≡ false) where
   pub on_card_lem : rank_of start + n ≤ 216 → OnCard start n
@@ -27,31 +19,10 @@ module _ (start n : ℕ) (plain : trailer start ≡ false) where
 
   -- the last block is there, so its rank is at most 215
   pub on_card_within : start < 256 → OnCard start n → rank_of start + n ≤ 216
-  on_card_within h o = ⊎_elim (λ (none : n < 1). omega (arith, rank_le start h)) (λ (some : 1 ≤ n). ⊎_elim (λ (low : rank_of start + (n - 1) < 216). omega arith) (λ (past : 216 ≤ rank_of start + (n - 1)). absurd (false≢true (missing some past))) (cases_lt _ 216)) (cases_lt n 1)
+  on_card_within h o = ⊎_elim (λ none. omega (arith, rank_le start h)) (λ some. ⊎_elim (λ low. omega arith) (λ past. absurd (false≢true (missing some past))) (cases_lt (rank_of start + (n - 1)) 216)) (cases_lt n 1)
     where
       missing : 1 ≤ n → 216 ≤ rank_of start + (n - 1) → false ≡ true
-      missing some past = sym (ap is_some (run_block_rank start n (n - 1) (omega arith) plain ∙ past_block _ past)) ∙ o.each (n - 1) (omega arith)
-
-pub on_card_trailer : (start n : ℕ) → trailer start ≡ true → on_card start n ≡ false
-unfolding on_card
-on_card_trailer start n t = and_left (not (trailer start)) _ (not_from_true _ t)
-
-pub on_card_plain : (start n : ℕ) → trailer start ≡ false → on_card start n ≡ leb (rank_of start + n) 216
-unfolding on_card
-on_card_plain start n plain = ap (λ t. not t && leb (rank_of start + n) 216) plain
-
-module _ (a m b n : ℕ) where
-  pub meet_plain : trailer a ≡ false → trailer b ≡ false → runs_meet a m b n ≡ (ltb (rank_of a) (rank_of b + n) && ltb (rank_of b) (rank_of a + m))
-  unfolding runs_meet
-  meet_plain p q = simp (p, q) refl
-
-  pub meet_left : trailer a ≡ true → runs_meet a m b n ≡ false
-  unfolding runs_meet
-  meet_left p = simp p refl
-
-  pub meet_right : trailer a ≡ false → trailer b ≡ true → runs_meet a m b n ≡ false
-  unfolding runs_meet
-  meet_right p q = simp (p, q) refl
+      missing some past = grind (arith, o.each (n - 1) (omega arith), run_block_rank, past_block)
 
 -- runs on the card have a rank in common exactly if they have a block in common
 module _ (a m b n : ℕ) (ha : a < 256) (hb : b < 256) (ca : OnCard a m) (cb : OnCard b n) (some : 0 < m) (more : 0 < n) where
