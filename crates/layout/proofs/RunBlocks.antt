@@ -1,6 +1,7 @@
 -- The blocks of a run. Assumes nothing.
 use Rattle.std.proofs.Common.{◌≡◌, ℕ, ◌+◌, ◌-◌, ◌<◌, ◌≤◌, Bool, true, false, not, ◌&&◌, ltb, leb, is_some, Some, None, Decides, sym, refl, ap, ◌∙◌, ⊎_elim, add-zero, arith}
 use Rattle.std.proofs.lemmas.Grind.{common_steps}
+use Rattle.std.proofs.lemmas.Bool.Decides.{nat_tests}
 use Rattle.std.proofs.lemmas.Bool.{lt-ltb, le-ltb, cond-true, cond-false, and_from, and_left, and_right, not_from_true, not_from_false, cases_lt, false≢true, and_parts, ltb-true}
 use Rattle.layout.specs.Blocks.{trailer, rank_of, data_block}
 use Rattle.layout.specs.Runs.{run_block, on_card, OnCard, runs_meet, Shared}
@@ -19,10 +20,7 @@ module _ (start n : ℕ) (plain : trailer start ≡ false) where
 
   -- the last block is there, so its rank is at most 215
   pub on_card_within : start < 256 → OnCard start n → rank_of start + n ≤ 216
-  on_card_within h o = ⊎_elim (λ none. omega (arith, rank_le start h)) (λ some. ⊎_elim (λ low. omega arith) (λ past. absurd (false≢true (missing some past))) (cases_lt (rank_of start + (n - 1)) 216)) (cases_lt n 1)
-    where
-      missing : 1 ≤ n → 216 ≤ rank_of start + (n - 1) → false ≡ true
-      missing some past = grind (arith, o.each (n - 1) (omega arith), run_block_rank, past_block)
+  on_card_within h o = ⊎_elim (λ none. omega (arith, rank_le start h)) (λ some. grind (arith, o.each (n - 1) (omega arith), run_block_rank, past_block)) (cases_lt n 1)
 
 -- runs on the card have a rank in common exactly if they have a block in common
 module _ (a m b n : ℕ) (ha : a < 256) (hb : b < 256) (ca : OnCard a m) (cb : OnCard b n) (some : 0 < m) (more : 0 < n) where
@@ -71,11 +69,8 @@ module _ (a m b n : ℕ) (ha : a < 256) (hb : b < 256) (ca : OnCard a m) (cb : O
   pub meet_decides : (r : Bool) → r ≡ (ltb (rank_of a) (rank_of b + n) && ltb (rank_of b) (rank_of a + m)) → Decides r (Shared a m b n)
   meet_decides r e = (
     λ t.
-        let p = and_parts _ _ (sym e ∙ t) in
-        meet_shared (ltb-true _ _ p.0) (ltb-true _ _ p.1),
+        meet_shared (grind (arith, nat_tests)) (grind (arith, nat_tests)),
     λ s.
         let level = shared_level s in
-        let la = s.low in
-        let lb = s.high in
-        e ∙ and_from _ _ (lt-ltb (rank_of a) (rank_of b + n) (omega arith)) (lt-ltb (rank_of b) (rank_of a + m) (omega arith)),
+        grind (arith, nat_tests),
   )
