@@ -39,8 +39,8 @@ module _ (a m b n : ℕ) (ha : a < 256) (hb : b < 256) (ca : OnCard a m) (cb : O
         low = omega arith;
         high = more;
         block = b;
-        first = run_block_rank a m i (omega arith) ca.starts ∙ ap data_block up ∙ (from_block b hb cb.starts).block;
-        second = run_block_rank b n 0 more cb.starts ∙ ap data_block (add-zero (rank_of b)) ∙ (from_block b hb cb.starts).block;
+        first = grind (arith, run_block_rank, (from_block b hb cb.starts).block, ca.starts);
+        second = grind (arith, run_block_rank, (from_block b hb cb.starts).block, cb.starts);
       })
       (λ (high : rank_of b ≤ rank_of a).
       let j = rank_of a - rank_of b in
@@ -51,26 +51,21 @@ module _ (a m b n : ℕ) (ha : a < 256) (hb : b < 256) (ca : OnCard a m) (cb : O
         low = some;
         high = omega arith;
         block = a;
-        first = run_block_rank a m 0 some ca.starts ∙ ap data_block (add-zero (rank_of a)) ∙ (from_block a ha ca.starts).block;
-        second = run_block_rank b n j (omega arith) cb.starts ∙ ap data_block up ∙ (from_block a ha ca.starts).block;
+        first = grind (arith, run_block_rank, (from_block a ha ca.starts).block, ca.starts);
+        second = grind (arith, run_block_rank, (from_block a ha ca.starts).block, cb.starts);
       })
       (cases_lt (rank_of a) (rank_of b))
 
   shared_level : (s : Shared a m b n) → rank_of a + s.i ≡ rank_of b + s.j
   shared_level s =
-      let la = s.low in
-      let lb = s.high in
       let wa = on_card_within a m ca.starts ha ca in
       let wb = on_card_within b n cb.starts hb cb in
-      let fa = ranked (rank_of a + s.i) s.block (omega arith) (sym (run_block_rank a m s.i la ca.starts) ∙ s.first) in
-      let fb = ranked (rank_of b + s.j) s.block (omega arith) (sym (run_block_rank b n s.j lb cb.starts) ∙ s.second) in
+      let fa = ranked (rank_of a + s.i) s.block (omega arith) (sym (run_block_rank a m s.i s.low ca.starts) ∙ s.first) in
+      let fb = ranked (rank_of b + s.j) s.block (omega arith) (sym (run_block_rank b n s.j s.high cb.starts) ∙ s.second) in
       sym fa ∙ fb
 
   pub meet_decides : (r : Bool) → r ≡ (ltb (rank_of a) (rank_of b + n) && ltb (rank_of b) (rank_of a + m)) → Decides r (Shared a m b n)
   meet_decides r e = (
-    λ t.
-        meet_shared (grind (arith, nat_tests)) (grind (arith, nat_tests)),
-    λ s.
-        let level = shared_level s in
-        grind (arith, nat_tests),
+    λ t. meet_shared (grind (arith, nat_tests)) (grind (arith, nat_tests)),
+    λ s. let level = shared_level s in grind (arith, nat_tests),
   )
