@@ -8,7 +8,6 @@ pub mod MadPlaces
 pub mod ReadEntries
 pub mod OneAltered
 pub mod RunTouches
-pub mod Sealed
 pub mod Searching
 pub mod SealedReads
 pub mod WrittenEntries

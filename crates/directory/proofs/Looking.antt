@@ -15,16 +15,6 @@ and_true : (b : Bool) → (b && true) ≡ b
 and_true true = refl
 and_true false = refl
 
--- a block that was read
-pub looked_block : {before after : Blocks} {on still : Bool} {at : ℕ} {bytes : List ℕ} → Read before on after still at bytes → Looked (block_look at before) before on after still (Ok bytes)
-looked_block {on} w = record {
-  stay = 1;
-  off = λ o. absurd (both_ways on o w.was);
-  answer = ap Ok w.value;
-  same = w.same;
-  is = w.is ∙ sym w.was ∙ sym (and_true on);
-}
-
 -- nothing was read
 pub looked_none : {X : Type 0} (r : Answer X) (blocks : Blocks) (on : Bool) → Looked (judged r) blocks on blocks on r
 looked_none r blocks on = record { stay = 0; off = λ _. refl; answer = refl; same = refl; is = sym (and_true on) }

@@ -13,6 +13,7 @@ use Rattle.layout.specs.declared.numbers.Sector.{Sector}
 use Rattle.layout.specs.declared.profiles.Profile.{Profile}
 use Rattle.layout.specs.declared.profiles.Profile.TheVariants.{A, B, C, D, E}
 use Rattle.layout.specs.declared.refusals.Reason.TheVariants.{MadChecksum, NscpChecksum, ServicesChecksum}
+use Rattle.layout.proofs.Answered.{then_ok}
 use Rattle.layout.proofs.Below.{at}
 use Rattle.card.specs.Blocks.{Blocks, put}
 use Rattle.directory.specs.Checks.{nscp_accepted, nscp_look_at, nscp_look, together, accepted, services_look, rest_look, check_look, verdict}
@@ -29,11 +30,6 @@ use Rattle.directory.specs.declared.accepted.Nscp.{Nscp}
 use Rattle.directory.proofs.Altered.{Absent, Once, agree_absent, put_away, altered_unsealed, nth_counting, nth_counting_lt, once_counting, absent_counted}
 use Rattle.directory.proofs.DirectoryPlaces.{cond_ok, nscp_small, nscp_allowed, services_small, services_place}
 use Rattle.directory.proofs.Locality.{Local, local_mad, local_nscp}
-
--- the parts of an answer that was accepted
-then_ok : {X Y : Type 0} (a : Answer X) (f : X → Answer Y) (y : Y) → then a f ≡ Ok y → (x : X) × (a ≡ Ok x) × (f x ≡ Ok y)
-then_ok (Ok x) f y e = (x, refl, e)
-then_ok (Err r) f y e = let z : ◌≡◌ {A = ℕ} 0 1 = cc in absurd (omega arith)
 
 same_list : List ℕ → List ℕ → Bool
 same_list [] [] = true

@@ -10,36 +10,6 @@ use Rattle.directory.proofs.DirectoryPlaces.{services_on_card}
 use Rattle.directory.proofs.Looking.{taken_none, taken_judge, taken_stop, taken_then}
 use Rattle.directory.proofs.check.read_services.Goals as goal
 
-pub returns-in_err-block : goal.returns-in_err-block
-returns-in_err-block g c =
-    let k = g.C.Card in
-    let p = c.args.applications.profile in
-    let mad = c.args.applications.bytes in
-    let nscp = c.args.nscp in
-    let place = services_judged p mad nscp.sector.0 nscp.bytes in
-    let e = err_from_is_err_and c.from_residual.result c.from_residual.ensures.1 in
-    rw (e.1, e.2)
-    (taken_stop k (λ _. judged place) (services_look_at p mad nscp) _ (taken_none k place c.args.card.now) (sym c.in_err-block.ensures))
-
-pub read_sealed-requires : goal.read_sealed-requires
-read_sealed-requires g c = record {
-  run = services_on_card c.args.applications.profile c.args.applications.bytes c.args.nscp.sector.0 c.args.nscp.bytes c.in_ok-block.block c.requires.items (sym c.in_ok-block.ensures);
-  few = lit≤ tt;
-}
-
-pub returns-in_err-bytes : goal.returns-in_err-bytes
-returns-in_err-bytes g c =
-    let k = g.C.Card in
-    let p = c.args.applications.profile in
-    let mad = c.args.applications.bytes in
-    let nscp = c.args.nscp in
-    let at = c.in_ok-block.block in
-    let place = services_judged p mad nscp.sector.0 nscp.bytes in
-    let e = err_from_is_err_and c.from_residual-in_err-bytes.result c.from_residual-in_err-bytes.ensures.1 in
-    let last = taken_stop k (sealed_look ServicesChecksum at.0 3) (λ _ s. judged (accepted (together p mad nscp at s))) _ c.in_err-bytes.ensures refl in
-    rw (e.1, e.2)
-    (taken_then k (λ _. judged place) (services_look_at p mad nscp) at (taken_none k place c.args.card.now) (sym c.in_ok-block.ensures) last)
-
 pub returns-in_err-judge_slots : goal.returns-in_err-judge_slots
 returns-in_err-judge_slots g c =
     let k = g.C.Card in

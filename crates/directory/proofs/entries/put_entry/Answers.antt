@@ -28,21 +28,3 @@ returns-then-start-width-le48 g c =
       back = λ fit within. ap (λ x. entry_at k.HEADER k.WIDTH k.parse x i) put ∙ read_back k.HEADER k.WIDTH k.parse k.print k.fits law.whole law.used law.back d full i c.args.value fit within;
       others = λ j ne. ap (λ x. entry_at k.HEADER k.WIDTH k.parse x j) put ∙ others_same k.HEADER k.WIDTH k.parse k.print k.fits law.whole law.used law.back d full i c.args.value j ne;
     }
-
-pub returns-else-start-width-le48 : goal.returns-else-start-width-le48
-returns-else-start-width-le48 g c =
-    let k = g.E.Entry in
-    let law = g.met.E.Entry in
-    let d = c.args.directory.now in
-    let i = c.args.i in
-    let w = c.WIDTH-width.result in
-    let j = c.from.result in
-    let full : length d ≡ 48 = search rules in
-    let past : 48 < k.HEADER + i * k.WIDTH + k.WIDTH =
-    subst (λ x. 48 < k.HEADER + x * k.WIDTH + k.WIDTH) c.from.ensures
-    (subst (λ x. 48 < k.HEADER + j * x + x) c.WIDTH-width.ensures (subst (λ x. 48 < x + j * w + w) c.HEADER.ensures c.if-start-width-le48.false)) in
-    record {
-      put = sym (put_past k.HEADER k.WIDTH k.parse k.print k.fits law.whole law.used law.back d full i c.args.value past);
-      back = λ fit within. absurd (omega arith);
-      others = λ j ne. refl;
-    }

@@ -8,14 +8,6 @@ use Rattle.directory.proofs.Looking.{taken_then}
 use Rattle.directory.proofs.MadPlaces.{mad_on_card, mad_few}
 use Rattle.directory.proofs.judge.read_mad.Goals as goal
 
-pub read_sealed-requires : goal.read_sealed-requires
-read_sealed-requires g c =
-    let is = sym c.mad.ensures in
-    record {
-      run = subst (λ m. on_card m.run.start.0 m.run.length ≡ true) is (mad_on_card c.args.profile);
-      few = subst (λ m. m.run.length ≤ 3) is (mad_few c.args.profile);
-    }
-
 pub returns : goal.returns
 returns g c =
     let k = g.C.Card in

@@ -5,15 +5,6 @@ use Rattle.directory.specs.Slots.{share, shares_earlier}
 use Rattle.directory.proofs.Searching.{any_none, any_here, any_past, lowest_none, lowest_here, lowest_past}
 use Rattle.directory.proofs.accepted.Services.first_shared.Goals as goal
 
-pub loop-i-init : goal.loop-i-init
-loop-i-init c = lowest_none _
-
-pub loop-j-init : goal.loop-j-init
-loop-j-init c = (c.loop-i.invariant, any_none _)
-
-pub loop-j-preserved : goal.loop-j-preserved
-loop-j-preserved c = (c.loop-j.invariant.0, any_past _ c.loop-j.j c.loop-j.invariant.1 (sym c.if-do_share.ensures))
-
 pub loop-i-preserved : goal.loop-i-preserved
 unfolding shares_earlier
 loop-i-preserved c =
