@@ -17,7 +17,6 @@ pub(crate) const ITEMS: u8 = 23;
 
 impl Applications {
     // The one listed sector that is the NSCP's, if it may stand there.
-    #[tactic(auto, using(crate::proofs::Searching::lowest_some, crate::proofs::MadPlaces::mad_listed))]
     pub(crate) fn nscp_sector(&self) -> Result<Sector, Refusal>
         ensures { result ≡ nscp_sector_judged self.now.profile self.now.bytes }
     {

@@ -1,5 +1,4 @@
-use Rattle.std.proofs.Common.{refl}
-use Rattle.std.proofs.lemmas.Result.{err_from_is_err_and}
+use Rattle.std.proofs.Common.{refl, rules}
 use Rattle.directory.specs.Checks.{nscp_look, services_look, rest_look, check_look}
 use Rattle.directory.specs.Judged.{mad_look}
 use Rattle.directory.proofs.Looking.{taken_stop, taken_then}
@@ -9,8 +8,7 @@ pub returns-in_err-bytes-clause-look : goal.returns-in_err-bytes-clause-look
 unfolding check_look
 returns-in_err-bytes-clause-look g c =
     let p = c.args.profile in
-    let e = err_from_is_err_and c.from_residual.result c.from_residual.ensures.1 in
-    rw (e.1, e.2) (taken_stop g.C.Card (mad_look p) (λ b mad. rest_look p mad b) _ c.in_err-bytes.ensures refl)
+    search (rules, taken_stop g.C.Card (mad_look p) (λ b mad. rest_look p mad b) _ c.in_err-bytes.ensures refl)
 
 pub returns-in_err-nscp-clause-look : goal.returns-in_err-nscp-clause-look
 unfolding check_look
@@ -18,10 +16,11 @@ returns-in_err-nscp-clause-look g c =
     let k = g.C.Card in
     let p = c.args.profile in
     let mad = c.in_ok-bytes.bytes in
-    let e = err_from_is_err_and c.from_residual-in_err-nscp.result c.from_residual-in_err-nscp.ensures.1 in
-    rw (e.1, e.2)
-    (taken_then k (mad_look p) (λ b m. rest_look p m b) mad c.in_ok-bytes.ensures refl
-    (taken_stop k (nscp_look p mad) (λ b n. services_look p mad n b) _ c.in_err-nscp.ensures.look refl))
+    search (
+      rules,
+      taken_then k (mad_look p) (λ b m. rest_look p m b) mad c.in_ok-bytes.ensures refl
+      (taken_stop k (nscp_look p mad) (λ b n. services_look p mad n b) _ c.in_err-nscp.ensures.look refl),
+    )
 
 pub returns-clause-look : goal.returns-clause-look
 unfolding check_look
