@@ -133,18 +133,18 @@ absent_counting at from zero h = tt
 absent_counting at from (suc n) h = (λ e. absurd (omega arith), absent_counting at (from + 1) n (omega arith))
 
 pub nth_counting : (from n k at : ℕ) → slice_get (range_with_len from n) k ≡ Some at → from ≤ at
-nth_counting from zero k at e = let z : ◌≡◌ {A = ℕ} 0 1 = cc in absurd (omega arith)
+nth_counting from zero k at e = grind arith
 nth_counting from (suc n) zero at e = let same : from ≡ at = cc in omega arith
 nth_counting from (suc n) (suc k) at e = let low = nth_counting (from + 1) n k at e in omega arith
 
 pub nth_counting_lt : (from n k at : ℕ) → slice_get (range_with_len from n) k ≡ Some at → at < from + n
-nth_counting_lt from zero k at e = let z : ◌≡◌ {A = ℕ} 0 1 = cc in absurd (omega arith)
+nth_counting_lt from zero k at e = grind arith
 nth_counting_lt from (suc n) zero at e = let same : from ≡ at = cc in omega arith
 nth_counting_lt from (suc n) (suc k) at e = let low = nth_counting_lt (from + 1) n k at e in omega arith
 
 pub once_counting : (from n k at : ℕ) → slice_get (range_with_len from n) k ≡ Some at → Once at (range_with_len from n)
 unfolding Once
-once_counting from zero k at e = let z : ◌≡◌ {A = ℕ} 0 1 = cc in absurd (omega arith)
+once_counting from zero k at e = grind arith
 once_counting from (suc n) zero at e = let same : from ≡ at = cc in inl (same, absent_counting at (from + 1) n (omega arith))
 once_counting from (suc n) (suc k) at e = let low = nth_counting (from + 1) n k at e in inr (λ same. absurd (omega arith), once_counting (from + 1) n k at e)
 

@@ -49,10 +49,10 @@ low_block b h = grind (arith, nat_tests)
 -- an answer that is accepted by a test passed it
 pub cond_ok : {X : Type 0} (b : Bool) (x y : X) (e : Refusal) → cond b (Ok x) (Err e) ≡ Ok y → (b ≡ true) × (x ≡ y)
 cond_ok true x y e is = (refl, cc)
-cond_ok false x y e is = let z : ◌≡◌ {A = ℕ} 0 1 = cc in absurd (omega arith)
+cond_ok false x y e is = grind arith
 
 pub cond_not : {X : Type 0} (b : Bool) (x y : X) (e : Refusal) → cond b (Err e) (Ok x) ≡ Ok y → (b ≡ false) × (x ≡ y)
-cond_not true x y e is = let z : ◌≡◌ {A = ℕ} 0 1 = cc in absurd (omega arith)
+cond_not true x y e is = grind arith
 cond_not false x y e is = (refl, cc)
 
 -- the NSCP directory
@@ -60,12 +60,12 @@ pub nscp_allowed : (p : Profile) (mad : List ℕ) (s : Sector) → nscp_sector_j
 nscp_allowed p mad s e = by_count (count_of (is_nscp mad) (mad_of p).listed == 1) (lowest_of (is_nscp mad) (mad_of p).listed) e
   where
     by_place : (o : Option ℕ) → nscp_sector_at p o ≡ Ok s → within (nscp_sectors p) s.0 ≡ true
-    by_place None e = let z : ◌≡◌ {A = ℕ} 0 1 = cc in absurd (omega arith)
+    by_place None e = grind arith
     by_place (Some i) e = let k = cond_ok _ _ s _ e in subst (λ t. within (nscp_sectors p) t.0 ≡ true) k.1 k.0
 
     by_count : (b : Bool) (o : Option ℕ) → cond b (nscp_sector_at p o) (refuse NscpSector 0) ≡ Ok s → within (nscp_sectors p) s.0 ≡ true
     by_count true o e = by_place o e
-    by_count false o e = let z : ◌≡◌ {A = ℕ} 0 1 = cc in absurd (omega arith)
+    by_count false o e = grind arith
 
 pub nscp_on_card : (p : Profile) (mad : List ℕ) (s : Sector) → nscp_sector_judged p mad ≡ Ok s → (s.0 < 32) × (on_card (first_of s.0) 3 ≡ true)
 nscp_on_card p mad s e = let small = nscp_small p s.0 (nscp_allowed p mad s e) in (small, sector_on_card s.0 small)
@@ -76,11 +76,11 @@ items_right nscp e = clear (eqb (get_or nscp 1 0) 0) e
   where
     none : (o : Option ℕ) → first_item_judged o ≡ Ok tt → o ≡ None
     none None e = refl
-    none (Some i) e = let z : ◌≡◌ {A = ℕ} 0 1 = cc in absurd (omega arith)
+    none (Some i) e = grind arith
 
     clear : (b : Bool) → cond b (first_item_judged (lowest_of (wrong_item nscp) 23)) (refuse NscpItem 0) ≡ Ok tt → lowest_of (wrong_item nscp) 23 ≡ None
     clear true e = none _ e
-    clear false e = let z : ◌≡◌ {A = ℕ} 0 1 = cc in absurd (omega arith)
+    clear false e = grind arith
 
 -- an item for a sector stands at its first block
 item_first : (nscp : List ℕ) (i : ℕ) (it : Item) → item_at nscp i ≡ Some it → wrong_item nscp i ≡ false → names_sector it.tag ≡ true → position_of it.block.0 ≡ 0
@@ -103,7 +103,7 @@ pub services_on_card : (p : Profile) (mad : List ℕ) (s : ℕ) (nscp : List ℕ
 services_on_card p mad s nscp at judged e = by_place (lowest_of (λ i. tag_is 0xCF (item_at nscp i)) 23) refl e
   where
     by_item : (i : ℕ) → i < 23 → (o : Option Item) → item_at nscp i ≡ o → services_at p mad s nscp o ≡ Ok at → on_card at.0 3 ≡ true
-    by_item i h None is e = let z : ◌≡◌ {A = ℕ} 0 1 = cc in absurd (omega arith)
+    by_item i h None is e = grind arith
     by_item i h (Some it) is e =
         let k = cond_not _ _ at _ e in
         let plain = item_plain nscp i it is (lowest_all (wrong_item nscp) 23 (items_right nscp judged) i h) in
@@ -111,7 +111,7 @@ services_on_card p mad s nscp at judged e = by_place (lowest_of (λ i. tag_is 0x
         subst (λ b. on_card b.0 3 ≡ true) k.1 (block_on_card it.block.0 (low_block it.block.0 small) plain)
 
     by_place : (o : Option ℕ) → lowest_of (λ i. tag_is 0xCF (item_at nscp i)) 23 ≡ o → services_at p mad s nscp (item_found nscp o) ≡ Ok at → on_card at.0 3 ≡ true
-    by_place None is e = let z : ◌≡◌ {A = ℕ} 0 1 = cc in absurd (omega arith)
+    by_place None is e = grind arith
     by_place (Some i) is e = by_item i (lowest_some (λ j. tag_is 0xCF (item_at nscp j)) 23 i is).0 (item_at nscp i) refl e
 
 -- where the services directory stands: the first block of a small sector that is not the NSCP's
@@ -129,7 +129,7 @@ pub services_place : (p : Profile) (mad : List ℕ) (s : ℕ) (nscp : List ℕ) 
 services_place p mad s nscp at judged e = by_place (lowest_of (λ i. tag_is 0xCF (item_at nscp i)) 23) refl e
   where
     by_item : (i : ℕ) → (i < 23) × (tag_is 0xCF (item_at nscp i) ≡ true) → (o : Option Item) → item_at nscp i ≡ o → services_at p mad s nscp o ≡ Ok at → ServicesPlace p s at
-    by_item i h None is e = let z : ◌≡◌ {A = ℕ} 0 1 = cc in absurd (omega arith)
+    by_item i h None is e = grind arith
     by_item i h (Some it) is e =
         let k = cond_not _ _ at _ e in
         let b = it.block.0 in
@@ -146,5 +146,5 @@ services_place p mad s nscp at judged e = by_place (lowest_of (λ i. tag_is 0xCF
         subst (ServicesPlace p s) k.1 place
 
     by_place : (o : Option ℕ) → lowest_of (λ i. tag_is 0xCF (item_at nscp i)) 23 ≡ o → services_at p mad s nscp (item_found nscp o) ≡ Ok at → ServicesPlace p s at
-    by_place None is e = let z : ◌≡◌ {A = ℕ} 0 1 = cc in absurd (omega arith)
+    by_place None is e = grind arith
     by_place (Some i) is e = by_item i (lowest_some (λ j. tag_is 0xCF (item_at nscp j)) 23 i is) (item_at nscp i) refl e

@@ -1,6 +1,9 @@
 -- Looks at a card, one after another. Assumes nothing.
-use Rattle.std.proofs.Common.{◌≡◌, ℕ, zero, suc, ◌+◌, Bool, true, false, not, ◌&&◌, List, [], ◌∷◌, ◌++◌, length, is_some, Some, None, Ok, Err, Option, sym, refl, ap, ◌∙◌, subst, append-nil, suc-add, zero-add, arith}
+use Rattle.std.proofs.Common.{◌≡◌, ℕ, zero, suc, ◌+◌, Bool, true, false, not, ◌&&◌, List, [], ◌∷◌, ◌++◌, length, is_some, Some, None, Ok, Err, Option, sym, refl, ap, ◌∙◌, subst, append-nil, suc-add, zero-add, arith, length-append}
 use Rattle.std.proofs.lemmas.Bool.{both_ways}
+use Rattle.std.proofs.Math.Bool.{and-true}
+use Rattle.std.proofs.lemmas.List.{get_or_append_left, get_or-append-add}
+use Rattle.std.proofs.lemmas.Option.{gets}
 use Rattle.std.specs.List.{slice_get}
 use Rattle.layout.specs.Refusals.{refusal, refuse, Answer, then}
 use Rattle.layout.specs.declared.refusals.Reason.TheVariants.{CardGone}
@@ -11,32 +14,25 @@ use Rattle.card.specs.declared.interface.Card.{Ghosts as CardKind}
 use Rattle.directory.specs.Looks.{Look, judged, touches_after, then_look, lost_at, unless_lost, Looked, Taken}
 use Rattle.directory.specs.Reads.{block_look}
 
-and_true : (b : Bool) → (b && true) ≡ b
-and_true true = refl
-and_true false = refl
-
 -- nothing was read
 pub looked_none : {X : Type 0} (r : Answer X) (blocks : Blocks) (on : Bool) → Looked (judged r) blocks on blocks on r
-looked_none r blocks on = record { stay = 0; off = λ _. refl; answer = refl; same = refl; is = sym (and_true on) }
+looked_none r blocks on = record { stay = 0; off = λ _. refl; answer = refl; same = refl; is = sym (and-true on) }
 
 nth_none : (xs : List ℕ) → slice_get xs 0 ≡ None → length xs ≡ 0
 nth_none [] e = refl
-nth_none (x ∷ xs) e = let z : ◌≡◌ {A = ℕ} 0 1 = cc in omega arith
+nth_none (x ∷ xs) e = grind arith
 
 nth_front : (xs ys : List ℕ) (i b : ℕ) → slice_get xs i ≡ Some b → slice_get (xs ++ ys) i ≡ Some b
-nth_front [] ys i b e = let z : ◌≡◌ {A = ℕ} 0 1 = cc in absurd (omega arith)
-nth_front (x ∷ xs) ys zero b e = e
-nth_front (x ∷ xs) ys (suc i) b e = nth_front xs ys i b e
+nth_front xs ys i b e = grind (arith, gets, length-append {A = ℕ}, get_or_append_left)
 
 nth_back : (xs ys : List ℕ) (i : ℕ) → slice_get (xs ++ ys) (length xs + i) ≡ slice_get ys i
-nth_back [] ys i = ap (slice_get ys) (zero-add i)
-nth_back (x ∷ xs) ys i = ap (slice_get (x ∷ (xs ++ ys))) (suc-add (length xs) i) ∙ nth_back xs ys i
+nth_back xs ys i = grind (arith, gets, length-append {A = ℕ}, get_or-append-add)
 
 module _ {X Y : Type 0} (l : Look X) (next : X → Look Y) where
   -- the answer of a look that was not lost
   kept : (lost : Option ℕ) (x : X) (r : Answer X) → r ≡ unless_lost lost l.answer → r ≡ Ok x → (lost ≡ None) × (l.answer ≡ Ok x)
   kept None x r e is = (refl, sym e ∙ is)
-  kept (Some b) x r e is = let z : ◌≡◌ {A = ℕ} 0 1 = cc in absurd (omega arith)
+  kept (Some b) x r e is = grind arith
 
   -- the first look is a refusal
   pub looked_stop : {b after : Blocks} {on still : Bool} {r : Answer X} {e : Refusal} → Looked l b on after still r → r ≡ Err e → Looked (then_look l next) b on after still (Err e)
@@ -65,7 +61,7 @@ module _ {X Y : Type 0} (l : Look X) (next : X → Look Y) where
   pub looked_then : {b after later : Blocks} {on still last : Bool} {r : Answer X} {s : Answer Y} (x : X) → Looked l b on after still r → r ≡ Ok x → Looked (next x) after still later last s → Looked (then_look l next) b on later last s
   looked_then {b} {after} {later} {on} {still} {last} {r} {s} x w is v =
       let k = kept (lost_at l w.stay) x r w.answer is in
-      let level : still ≡ on = w.is ∙ ap (λ o. on && not (is_some o)) k.0 ∙ and_true on in
+      let level : still ≡ on = w.is ∙ ap (λ o. on && not (is_some o)) k.0 ∙ and-true on in
       let stay = length l.touches + v.stay in
       let lost : lost_at (then_look l next) stay ≡ lost_at (next x) v.stay =
       ap (λ a. slice_get (l.touches ++ touches_after a next) stay) k.1 ∙ nth_back l.touches (next x).touches v.stay in

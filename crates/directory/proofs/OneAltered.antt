@@ -40,8 +40,8 @@ same_list (x ∷ xs) (y ∷ ys) = eqb x y && same_list xs ys
 same_list_true : (xs ys : List ℕ) → same_list xs ys ≡ true → xs ≡ ys
 unfolding same_list
 same_list_true [] [] e = refl
-same_list_true [] (y ∷ ys) e = let z : ◌≡◌ {A = ℕ} 0 1 = cc in absurd (omega arith)
-same_list_true (x ∷ xs) [] e = let z : ◌≡◌ {A = ℕ} 0 1 = cc in absurd (omega arith)
+same_list_true [] (y ∷ ys) e = grind arith
+same_list_true (x ∷ xs) [] e = grind arith
 same_list_true (x ∷ xs) (y ∷ ys) e = let p = and_parts (eqb x y) (same_list xs ys) e in λ i. eqb-true x y p.0 i ∷ same_list_true xs ys p.1 i
 
 -- the blocks of the directories are consecutive

@@ -22,5 +22,5 @@ nth_touches start n i t h e =
 
 -- the block that the code has
 pub mapped_some : (o : Option ℕ) (b : Block) → option_map to_block o ≡ Some b → o ≡ Some b.0
-mapped_some None b e = let z : ◌≡◌ {A = ℕ} 0 1 = cc in absurd (omega arith)
+mapped_some None b e = grind arith
 mapped_some (Some x) b e = let same : to_block x ≡ b = cc in ap (λ c. Some c.0) same

@@ -155,7 +155,7 @@ impl Services {
     }
 
     // The lowest slot that has a block in common with an earlier one. It ends at the first pair: the project fixes this form for comparing slots.
-    #[tactic(auto, using(crate::proofs::Searching::any_none, crate::proofs::Searching::any_past, crate::proofs::Searching::any_here, crate::proofs::Searching::lowest_none, crate::proofs::Searching::lowest_past, crate::proofs::Searching::lowest_here), unfolding(crate::specs::Slots::shares_earlier))]
+    #[tactic(auto, using(crate::proofs::Searching::any_past), unfolding(crate::specs::Searches::any_of, crate::specs::Searches::lowest_of))]
     fn first_shared(&self) -> Option<u8>
         ensures { result ≡ lowest_of (shares_earlier self.now.bytes) 11 }
     {

@@ -34,15 +34,15 @@ slots_judged_lem p blocks d e =
 
 none_first : (o q : Option ℕ) → ◌≡◌ (first_slot_judged (lower o q)) (Ok tt) → o ≡ None
 none_first None q e = refl
-none_first (Some a) None e = let z : ◌≡◌ {A = ℕ} 0 1 = cc in absurd (omega arith)
-none_first (Some a) (Some b) e = let z : ◌≡◌ {A = ℕ} 0 1 = cc in absurd (omega arith)
+none_first (Some a) None e = grind arith
+none_first (Some a) (Some b) e = grind arith
 
 none_wrong : (d : Directory) → slots_judged d ≡ Ok tt → lowest_of (wrong_slot d) 11 ≡ None
 none_wrong d e = by_header (header_clear d.services.bytes) e
   where
     by_header : (clear : Bool) → ◌≡◌ (cond clear (first_slot_judged (lower (lowest_of (wrong_slot d) 11) (lowest_of (shares_earlier d.services.bytes) 11))) (refuse ServicesSlot 0)) (Ok tt) → lowest_of (wrong_slot d) 11 ≡ None
     by_header true e = none_first _ _ e
-    by_header false e = let z : ◌≡◌ {A = ℕ} 0 1 = cc in absurd (omega arith)
+    by_header false e = grind arith
 
 slot_on_card : (d : Directory) (i : ℕ) (s : Slot) → wrong_slot d i ≡ false → slot_at d.services.bytes i ≡ Some s → on_card s.run.start.0 s.run.length ≡ true
 unfolding wrong_slot slot_wrong
@@ -60,11 +60,11 @@ unfolding found_in
 found_on_card p blocks d number f e found = by_place (lowest_of (λ i. number_is number (slot_at d.services.bytes i)) 11) refl found
   where
     by_slot : (i : ℕ) (o : Option Slot) → i < 11 → slot_at d.services.bytes i ≡ o → slot_found i o ≡ Ok f → on_card f.run.start.0 f.run.length ≡ true
-    by_slot i None h is found = let z : ◌≡◌ {A = ℕ} 0 1 = cc in absurd (omega arith)
+    by_slot i None h is found = grind arith
     by_slot i (Some s) h is found =
         let same : s.run ≡ f.run = cc in
         subst (λ r. on_card r.start.0 r.length ≡ true) same (slot_on_card d i s (lowest_all (wrong_slot d) 11 (none_wrong d (slots_judged_lem p blocks d e)) i h) is)
 
     by_place : (o : Option ℕ) → lowest_of (λ i. number_is number (slot_at d.services.bytes i)) 11 ≡ o → found_at d o ≡ Ok f → on_card f.run.start.0 f.run.length ≡ true
-    by_place None is found = let z : ◌≡◌ {A = ℕ} 0 1 = cc in absurd (omega arith)
+    by_place None is found = grind arith
     by_place (Some i) is found = by_slot i (slot_at d.services.bytes i) (lowest_some _ 11 i is).0 refl found

@@ -30,11 +30,11 @@ room_ok d number room f found enough =
   where
     by_test : (b : Bool) → ◌≡◌ {A = Answer (Unit {0})} (cond b (Ok tt) (refuse BufferLength (16 * f.run.length))) (Ok tt) → b ≡ true
     by_test true e = refl
-    by_test false e = let z : ◌≡◌ {A = ℕ} 0 1 = cc in absurd (omega arith)
+    by_test false e = grind arith
 
 -- a place that holds something lies inside
 nth_inside : (xs : List ℕ) (i b : ℕ) → slice_get xs i ≡ Some b → i < length xs
-nth_inside xs i b e = ⊎_elim (λ low. low) (λ past. let none = slice_get_past xs i past in let z : ◌≡◌ {A = ℕ} 0 1 = cc in absurd (omega arith)) (cases_lt i (length xs))
+nth_inside xs i b e = ⊎_elim (λ low. low) (λ past. let none = slice_get_past xs i past in grind arith) (cases_lt i (length xs))
 
 module _ {C : Type 0} (kind : CardKind C) (p : Profile) (number : ℕ) (card : C) (before : List ℕ) where
   open kind use {blocks}
@@ -98,7 +98,7 @@ module _ {C : Type 0} (kind : CardKind C) (p : Profile) (number : ℕ) (card : C
       kept = by_lost (lost_at (check_look p (blocks card)) w.looked.stay) w.looked.answer
         where
           by_lost : (lost : Option ℕ) → Ok d ≡ unless_lost lost (verdict p (blocks card)) → verdict p (blocks card) ≡ Ok d
-          by_lost (Some b) e = let z : ◌≡◌ {A = ℕ} 0 1 = cc in absurd (omega arith)
+          by_lost (Some b) e = grind arith
           by_lost None e = sym e
 
       asked_run : (read_look p number (length before) (blocks card)).touches ≡ reads p (blocks card) ++ touches_after (room_for d number (length before)) (run_look (blocks card))

@@ -2,7 +2,7 @@ use Rattle.std.proofs.Common.{◌≡◌, ℕ, sym, ap, ◌∙◌, arith}
 use Rattle.directory.specs.Entries.{slot_at}
 use Rattle.directory.specs.Searches.{any_of}
 use Rattle.directory.specs.Slots.{share, shares_earlier}
-use Rattle.directory.proofs.Searching.{any_none, any_here, any_past, lowest_none, lowest_here, lowest_past}
+use Rattle.directory.proofs.Searching.{any_here, lowest_here, lowest_past}
 use Rattle.directory.proofs.accepted.Services.first_shared.Goals as goal
 
 pub loop-i-preserved : goal.loop-i-preserved
