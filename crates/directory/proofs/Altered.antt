@@ -4,6 +4,8 @@ use native.Mathlib.Nat.{suc_inj}
 use Rattle.std.proofs.ByRecursion.{All-append}
 use Rattle.std.proofs.lemmas.List.{places}
 use Rattle.std.proofs.lemmas.Bool.{eqb-true, eq-eqb, ne_eqb, cond-true, cond-false, cases_lt, cases_eq, false≢true}
+use Rattle.std.proofs.lemmas.Option.{gets}
+use Rattle.std.proofs.lemmas.List.FromFn.{get_or-range_with_len, length-range_with_len}
 use Rattle.std.specs.List.{slice_get, range_with_len}
 use Rattle.layout.specs.Crc.{crc8}
 use Rattle.layout.specs.Differ.{Bytes, DifferInOne}
@@ -132,21 +134,14 @@ unfolding Absent
 absent_counting at from zero h = tt
 absent_counting at from (suc n) h = (λ e. absurd (omega arith), absent_counting at (from + 1) n (omega arith))
 
-pub nth_counting : (from n k at : ℕ) → slice_get (range_with_len from n) k ≡ Some at → from ≤ at
-nth_counting from zero k at e = grind arith
-nth_counting from (suc n) zero at e = let same : from ≡ at = cc in omega arith
-nth_counting from (suc n) (suc k) at e = let low = nth_counting (from + 1) n k at e in omega arith
-
-pub nth_counting_lt : (from n k at : ℕ) → slice_get (range_with_len from n) k ≡ Some at → at < from + n
-nth_counting_lt from zero k at e = grind arith
-nth_counting_lt from (suc n) zero at e = let same : from ≡ at = cc in omega arith
-nth_counting_lt from (suc n) (suc k) at e = let low = nth_counting_lt (from + 1) n k at e in omega arith
+pub nth_counting : (from n k at : ℕ) → slice_get (range_with_len from n) k ≡ Some at → (from ≤ at) × (at < from + n)
+nth_counting from n k at e = (grind (arith, gets, get_or-range_with_len, length-range_with_len), grind (arith, gets, get_or-range_with_len, length-range_with_len))
 
 pub once_counting : (from n k at : ℕ) → slice_get (range_with_len from n) k ≡ Some at → Once at (range_with_len from n)
 unfolding Once
 once_counting from zero k at e = grind arith
 once_counting from (suc n) zero at e = let same : from ≡ at = cc in inl (same, absent_counting at (from + 1) n (omega arith))
-once_counting from (suc n) (suc k) at e = let low = nth_counting (from + 1) n k at e in inr (λ same. absurd (omega arith), once_counting (from + 1) n k at e)
+once_counting from (suc n) (suc k) at e = let low = (nth_counting (from + 1) n k at e).0 in inr (λ same. absurd (omega arith), once_counting (from + 1) n k at e)
 
 -- a block is not among others that lie below or above
 pub absent_counted : (at from n : ℕ) → (at < from) ⊎ (from + n ≤ at) → Absent at (range_with_len from n)

@@ -27,7 +27,7 @@ use Rattle.directory.specs.Services.{services_judged}
 use Rattle.directory.specs.Slots.{slots_judged}
 use Rattle.directory.specs.declared.accepted.Directory.{Directory}
 use Rattle.directory.specs.declared.accepted.Nscp.{Nscp}
-use Rattle.directory.proofs.Altered.{Absent, Once, agree_absent, put_away, altered_unsealed, nth_counting, nth_counting_lt, once_counting, absent_counted}
+use Rattle.directory.proofs.Altered.{Absent, Once, agree_absent, put_away, altered_unsealed, nth_counting, once_counting, absent_counted}
 use Rattle.directory.proofs.DirectoryPlaces.{cond_ok, nscp_small, nscp_allowed, services_small, services_place}
 use Rattle.directory.proofs.Locality.{Local, local_mad, local_nscp}
 
@@ -170,8 +170,7 @@ module _ (p : Profile) (blocks : Blocks) (d : Directory) (at : ℕ) (new : List 
 
   inside : (start n : ℕ) → run_touches start n ≡ range_with_len start n → BlockOf start n at → (start ≤ at) × (at < start + n)
   inside start n is b =
-      let there = subst (λ ts. slice_get ts b.place ≡ Some at) is b.there in
-      (nth_counting start n b.place at there, nth_counting_lt start n b.place at there)
+      nth_counting start n b.place at (subst (λ ts. slice_get ts b.place ≡ Some at) is b.there)
 
   -- blocks that lie apart are as they were
   agree_apart : (start n : ℕ) → run_touches start n ≡ range_with_len start n → (at < start) ⊎ (start + n ≤ at) → Agree (run_touches start n) blocks after
