@@ -94,14 +94,12 @@ services_place p mad s nscp at judged e = by_place (lowest_of (λ i. tag_is 0xCF
         let k = cond_not _ _ at _ e in
         let b = it.block.0 in
         let right = lowest_all (wrong_item nscp) 23 (items_right nscp judged) i h.0 in
-        let tagged : it.tag ≡ 0xCF = eqb-true _ _ (ap (tag_is 0xCF) (sym is) ∙ h.1) in
-        let parts = or_parts _ _ (or_parts _ _ k.0).0 in
-        let allowed = not-false _ (or_parts _ _ parts.0).0 in
-        let small = services_small p _ allowed in
+        let tagged : it.tag ≡ 0xCF = grind (arith, ap (tag_is 0xCF) (sym is)) in
+        let allowed : within (services_sectors p) (sector_of b) ≡ true = grind (arith, k.0) in
         let place : ServicesPlace p s it.block = record {
           allowed = allowed;
-          first = first_block b (low_block b small) (item_first nscp i it is right (ap names_sector tagged));
-          apart = eqb-false _ _ (or_parts _ _ parts.0).1;
+          first = first_block b (low_block b (services_small p _ allowed)) (item_first nscp i it is right (ap names_sector tagged));
+          apart = grind (arith, k.0);
           plain = item_plain nscp i it is right;
         } in
         subst (ServicesPlace p s) k.1 place

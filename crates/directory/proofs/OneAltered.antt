@@ -2,7 +2,9 @@
 use Rattle.std.proofs.Common.{◌≡◌, ℕ, ◌+◌, ◌*◌, ◌<◌, ◌≤◌, Bool, true, false, ◌&&◌, eqb, ◌⊎◌, List, [], ◌∷◌, ◌++◌, Some, Ok, Err, sym, refl, ap, ◌∙◌, subst, inl, inr, ⊎_elim, append-nil, arith}
 use Rattle.std.proofs.lemmas.Bool.{and_parts, eqb-true, cond-true, cond-false, lt-ltb, cases_lt}
 use Rattle.std.proofs.lemmas.Bool.Decides.{nat_tests}
+use Rattle.std.proofs.lemmas.Slice.Eq.{bytes_eq-Decides}
 use Rattle.std.specs.List.{slice_get, range_with_len}
+use Rattle.std.specs.Str.{bytes_eq}
 use Rattle.layout.specs.Blocks.{rank_of, data_block, sector_of, first_of}
 use Rattle.layout.specs.Differ.{Bytes, DifferInOne}
 use Rattle.layout.specs.Profiles.{within, mad_of, nscp_sectors, services_sectors}
@@ -31,23 +33,10 @@ use Rattle.directory.proofs.Altered.{Absent, Once, agree_absent, put_away, alter
 use Rattle.directory.proofs.DirectoryPlaces.{cond_ok, nscp_small, nscp_allowed, services_small, services_place}
 use Rattle.directory.proofs.Locality.{Local, local_mad, local_nscp}
 
-same_list : List ℕ → List ℕ → Bool
-same_list [] [] = true
-same_list [] (y ∷ ys) = false
-same_list (x ∷ xs) [] = false
-same_list (x ∷ xs) (y ∷ ys) = eqb x y && same_list xs ys
-
-same_list_true : (xs ys : List ℕ) → same_list xs ys ≡ true → xs ≡ ys
-unfolding same_list
-same_list_true [] [] e = refl
-same_list_true [] (y ∷ ys) e = grind arith
-same_list_true (x ∷ xs) [] e = grind arith
-same_list_true (x ∷ xs) (y ∷ ys) e = let p = and_parts (eqb x y) (same_list xs ys) e in λ i. eqb-true x y p.0 i ∷ same_list_true xs ys p.1 i
-
 -- the blocks of the directories are consecutive
 sector_touches : (s : ℕ) → s < 32 → run_touches (first_of s) 3 ≡ range_with_len (first_of s) 3
-unfolding run_touches run_block data_block rank_of same_list
-sector_touches s h = same_list_true _ _ (at (λ k. same_list (run_touches (first_of k) 3) (range_with_len (first_of k) 3)) 32 refl s h)
+unfolding run_touches run_block data_block rank_of
+sector_touches s h = (bytes_eq-Decides _ _).0 (at (λ k. bytes_eq (run_touches (first_of k) 3) (range_with_len (first_of k) 3)) 32 refl s h)
 
 mad_touches : (p : Profile) → run_touches (mad_of p).run.start.0 (mad_of p).run.length ≡ range_with_len (mad_of p).run.start.0 (mad_of p).run.length
 unfolding run_touches run_block data_block rank_of

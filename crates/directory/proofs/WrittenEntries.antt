@@ -55,7 +55,7 @@ module _ {E : Type 0} (header wide : ℕ) (parse : List ℕ → E) (print : E �
 
     pub read_back : Fit fits e → header + i * wide + wide ≤ 48 → entry_at header wide parse (entry_put header wide print directory i e) i ≡ e
     read_back fit here =
-        entry_here header wide parse _ i _ _ _ refl refl refl here
+        entry_here header wide parse _ i here
         ∙ ap (λ d. parsed parse (between (header + i * wide) (header + i * wide + wide) d)) (put_here here)
         ∙ ap (parsed parse) (between_paste directory (printed print wide e) (header + i * wide) wide (length_printed e) (omega arith))
         ∙ parsed_printed e fit
@@ -72,11 +72,11 @@ module _ {E : Type 0} (header wide : ℕ) (parse : List ℕ → E) (print : E �
         ⊎_elim
         (λ (past : 48 < header + i * wide + wide). ap (λ d. entry_at header wide parse d j) (put_past past))
         (λ (here : header + i * wide + wide ≤ 48). ⊎_elim
-        (λ (past : 48 < header + j * wide + wide). entry_past header wide parse _ j _ _ _ refl refl refl past ∙ sym (entry_past header wide parse directory j _ _ _ refl refl refl past))
+        (λ (past : 48 < header + j * wide + wide). entry_past header wide parse _ j past ∙ sym (entry_past header wide parse directory j past))
         (λ (there : header + j * wide + wide ≤ 48).
-        entry_here header wide parse _ j _ _ _ refl refl refl there
+        entry_here header wide parse _ j there
         ∙ ap (λ d. parsed parse (between (header + j * wide) (header + j * wide + wide) d)) (put_here here)
         ∙ ap (parsed parse) (between_other directory (printed print wide e) (header + i * wide) (header + j * wide) wide (length_printed e) (omega arith) (apart j ne))
-        ∙ sym (entry_here header wide parse directory j _ _ _ refl refl refl there))
+        ∙ sym (entry_here header wide parse directory j there))
         (cases_lt 48 (header + j * wide + wide)))
         (cases_lt 48 (header + i * wide + wide))
