@@ -5,7 +5,6 @@ pub mod KnownFigures
 pub mod Locality
 pub mod Looking
 pub mod MadPlaces
-pub mod ReadEntries
 pub mod OneAltered
 pub mod RunTouches
 pub mod Searching
