@@ -71,7 +71,7 @@ module _ {X Y : Type 0} (l : Look X) (next : X → Look Y) where
             let none : length l.touches ≡ 0 = nth_none l.touches (ap (slice_get l.touches) (sym (w.off o)) ∙ k.0) in
             let zero : v.stay ≡ 0 = v.off (level ∙ o) in
             omega arith;
-        answer = v.answer ∙ ap (λ o. unless_lost o (next x).answer) (sym lost) ∙ ap (λ a. unless_lost (lost_at (then_look l next) stay) (then a (λ y. (next y).answer))) (sym k.1);
+        answer = simp (k.1, nth_back) v.answer;
         same = v.same ∙ w.same;
         is = v.is ∙ ap (λ o. o && not (is_some (lost_at (next x) v.stay))) level ∙ ap (λ o. on && not (is_some o)) (sym lost);
       }

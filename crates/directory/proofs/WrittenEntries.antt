@@ -70,8 +70,8 @@ module _ {E : Type 0} (header wide : ℕ) (parse : List ℕ → E) (print : E �
     apart j ne =
         ⊎_elim
         (λ (less : j < i). let most : suc j * wide ≤ i * wide = mul-le-mul_right wide less in inl (omega (arith, suc-mul j wide)))
-        (λ (more : i < j). let most : suc i * wide ≤ j * wide = mul-le-mul_right wide more in inr (omega (arith, suc-mul i wide)))
-        (⊎_elim (λ (l : j < i). inl l) (λ (m : i ≤ j). inr (omega (arith, ne))) (cases_lt j i))
+        (λ (more : i ≤ j). let most : suc i * wide ≤ j * wide = mul-le-mul_right wide (omega (arith, ne)) in inr (omega (arith, suc-mul i wide)))
+        (cases_lt j i)
 
     pub others_same : (j : ℕ) → (j ≡ i → ⊥) → entry_at header wide parse (entry_put header wide print directory i e) j ≡ entry_at header wide parse directory j
     others_same j ne =
