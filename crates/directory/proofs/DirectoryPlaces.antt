@@ -22,18 +22,10 @@ use Rattle.directory.proofs.Searching.{lowest_all, lowest_some}
 
 -- every sector in which a directory may stand is one of the small ones
 pub nscp_small : (p : Profile) (s : ℕ) → within (nscp_sectors p) s ≡ true → s < 32
-nscp_small A s h = grind (arith, nat_tests)
-nscp_small B s h = grind (arith, nat_tests)
-nscp_small C s h = grind (arith, nat_tests)
-nscp_small D s h = grind (arith, nat_tests)
-nscp_small E s h = grind (arith, nat_tests)
+nscp_small p s h = grind (arith, nat_tests)
 
 pub services_small : (p : Profile) (s : ℕ) → within (services_sectors p) s ≡ true → s < 32
-services_small A s h = grind (arith, nat_tests)
-services_small B s h = grind (arith, nat_tests)
-services_small C s h = grind (arith, nat_tests)
-services_small D s h = grind (arith, nat_tests)
-services_small E s h = grind (arith, nat_tests)
+services_small p s h = grind (arith, nat_tests)
 
 sector_on_card : (s : ℕ) → s < 32 → on_card (first_of s) 3 ≡ true
 unfolding on_card rank_of

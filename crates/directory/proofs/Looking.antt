@@ -43,19 +43,9 @@ module _ {X Y : Type 0} (l : Look X) (next : X → Look Y) where
       stopped : (lost : Option ℕ) → lost_at l w.stay ≡ lost
           → (Err e ≡ unless_lost (lost_at (then_look l next) w.stay) (then l.answer (λ x. (next x).answer))) × (still ≡ (on && not (is_some (lost_at (then_look l next) w.stay))))
       stopped None none =
-          let refused : l.answer ≡ Err e = sym (w.answer ∙ ap (λ o. unless_lost o l.answer) none) ∙ is in
-          let lost : lost_at (then_look l next) w.stay ≡ lost_at l w.stay =
-          ap (λ a. slice_get (l.touches ++ touches_after a next) w.stay) refused ∙ ap (λ t. slice_get t w.stay) (append-nil l.touches) in (
-            ap (λ a. then a (λ x. (next x).answer)) (sym refused) ∙ ap (λ o. unless_lost o (then l.answer (λ x. (next x).answer))) (sym (lost ∙ none)),
-            w.is ∙ ap (λ o. on && not (is_some o)) (sym lost),
-          )
+          let refused : l.answer ≡ Err e = grind (arith, w.answer, none) in (simp (refused, append-nil, none) refl, simp (refused, append-nil) w.is)
       stopped (Some at) some =
-          let gone : r ≡ refuse CardGone at = w.answer ∙ ap (λ o. unless_lost o l.answer) some in
-          let which : e ≡ refusal CardGone at = cc in
-          let lost : lost_at (then_look l next) w.stay ≡ Some at = nth_front l.touches _ w.stay at some in (
-            ap Err which ∙ ap (λ o. unless_lost o (then l.answer (λ x. (next x).answer))) (sym lost),
-            w.is ∙ ap (λ o. on && not (is_some o)) (some ∙ sym lost),
-          )
+          let lost = nth_front l.touches (touches_after l.answer next) w.stay at some in (grind (arith, w.answer, some, lost), grind (arith, w.is, some, lost))
 
   -- the first look is none
   pub looked_then : {b after later : Blocks} {on still last : Bool} {r : Answer X} {s : Answer Y} (x : X) → Looked l b on after still r → r ≡ Ok x → Looked (next x) after still later last s → Looked (then_look l next) b on later last s
@@ -63,8 +53,6 @@ module _ {X Y : Type 0} (l : Look X) (next : X → Look Y) where
       let k = kept (lost_at l w.stay) x r w.answer is in
       let level : still ≡ on = w.is ∙ ap (λ o. on && not (is_some o)) k.0 ∙ and-true on in
       let stay = length l.touches + v.stay in
-      let lost : lost_at (then_look l next) stay ≡ lost_at (next x) v.stay =
-      ap (λ a. slice_get (l.touches ++ touches_after a next) stay) k.1 ∙ nth_back l.touches (next x).touches v.stay in
       record {
         stay = stay;
         off = λ o.
@@ -73,7 +61,7 @@ module _ {X Y : Type 0} (l : Look X) (next : X → Look Y) where
             omega arith;
         answer = simp (k.1, nth_back) v.answer;
         same = v.same ∙ w.same;
-        is = v.is ∙ ap (λ o. o && not (is_some (lost_at (next x) v.stay))) level ∙ ap (λ o. on && not (is_some o)) (sym lost);
+        is = simp (k.1, nth_back) (rw level at v.is);
       }
 
 -- nothing was read of a card of any kind

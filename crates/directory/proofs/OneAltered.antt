@@ -48,28 +48,16 @@ mad_touches E = refl
 
 -- the trailer follows the application directory, and the other directories lie above it
 mad_trailer : (p : Profile) → (mad_of p).run.start.0 + (mad_of p).run.length ≡ (mad_of p).trailer.0
-mad_trailer A = refl
-mad_trailer B = refl
-mad_trailer C = refl
-mad_trailer D = refl
-mad_trailer E = refl
+mad_trailer p = grind arith
 
 first_is : (s : ℕ) → s < 32 → first_of s ≡ 4 * s
 first_is s h = cond-true _ _ _ (lt-ltb s 32 h)
 
 nscp_above : (p : Profile) (s : ℕ) → within (nscp_sectors p) s ≡ true → (mad_of p).trailer.0 < 4 * s
-nscp_above A s h = grind (arith, nat_tests)
-nscp_above B s h = grind (arith, nat_tests)
-nscp_above C s h = grind (arith, nat_tests)
-nscp_above D s h = grind (arith, nat_tests)
-nscp_above E s h = grind (arith, nat_tests)
+nscp_above p s h = grind (arith, nat_tests)
 
 services_above : (p : Profile) (s : ℕ) → within (services_sectors p) s ≡ true → (mad_of p).trailer.0 < 4 * s
-services_above A s h = grind (arith, nat_tests)
-services_above B s h = grind (arith, nat_tests)
-services_above C s h = grind (arith, nat_tests)
-services_above D s h = grind (arith, nat_tests)
-services_above E s h = grind (arith, nat_tests)
+services_above p s h = grind (arith, nat_tests)
 
 -- what an accepted card has shown
 record Shown (p : Profile) (blocks : Blocks) (d : Directory) : Type 0 where
