@@ -1,7 +1,8 @@
 -- Reading a service, step after step. Assumes nothing.
 use Rattle.std.proofs.Common.{◌≡◌, ℕ, ◌+◌, ◌*◌, ◌<◌, ◌≤◌, Bool, true, false, cond, leb, List, [], ◌∷◌, ◌++◌, length, take, drop, Some, None, Ok, Err, Option, sym, refl, ap, ◌∙◌, ⊎_elim, append-nil, suc-add, zero-add, arith, length-take}
+use Rattle.std.proofs.lemmas.Grind.{common_steps}
 use Rattle.std.proofs.lemmas.List.{drop_all, drop_at, take_at, take_all}
-use Rattle.std.proofs.lemmas.Option.{slice_get_past}
+use Rattle.std.proofs.lemmas.Option.{slice_get_within}
 use Rattle.std.proofs.lemmas.Bool.{cases_lt, leb-true}
 use Rattle.std.specs.List.{slice_get}
 use Rattle.layout.specs.Buffers.{overlaid}
@@ -25,16 +26,7 @@ use Rattle.station.specs.declared.search.Found.{Found}
 
 -- a service that was found, and a buffer that is long enough for it
 pub room_ok : (d : Directory) (number room : ℕ) (f : Found) → found_in d number ≡ Ok f → room_judged f.run.length room ≡ Ok tt → (room_for d number room ≡ Ok f) × (16 * f.run.length ≤ room)
-room_ok d number room f found enough =
-    (ap (λ a. then a (λ x. then (room_judged x.run.length room) (λ _. Ok x))) found ∙ ap (λ a. then a (λ _. Ok f)) enough, leb-true _ _ (by_test (leb (16 * f.run.length) room) enough))
-  where
-    by_test : (b : Bool) → ◌≡◌ {A = Answer (Unit {0})} (cond b (Ok tt) (refuse BufferLength (16 * f.run.length))) (Ok tt) → b ≡ true
-    by_test true e = refl
-    by_test false e = grind arith
-
--- a place that holds something lies inside
-nth_inside : (xs : List ℕ) (i b : ℕ) → slice_get xs i ≡ Some b → i < length xs
-nth_inside xs i b e = ⊎_elim (λ low. low) (λ past. let none = slice_get_past xs i past in grind arith) (cases_lt i (length xs))
+room_ok d number room f found enough = (grind (arith, found, enough), grind (arith, common_steps, enough))
 
 module _ {C : Type 0} (kind : CardKind C) (p : Profile) (number : ℕ) (card : C) (before : List ℕ) where
   open kind use {blocks}
@@ -84,7 +76,7 @@ module _ {C : Type 0} (kind : CardKind C) (p : Profile) (number : ℕ) (card : C
         by_lost : (lost : Option ℕ) → lost_at (check_look p (blocks card)) w.looked.stay ≡ lost → (v : Taken kind (λ b. then_look (check_look p b) (after_check number (length before) b)) card later (Err e))
             → (behind_number v).looked.stay ≡ w.looked.stay
             → before ≡ overlaid (joined (blocks card) (run_read p number (length before) (blocks card) (behind_number v).looked.stay)) before
-        by_lost (Some b) lost v level = few_stay _ (omega (arith, nth_inside (reads p (blocks card)) w.looked.stay b lost))
+        by_lost (Some b) lost v level = few_stay _ (omega (arith, slice_get_within (reads p (blocks card)) w.looked.stay b lost))
         by_lost None kept v level =
             let refused : verdict p (blocks card) ≡ Err e = sym (w.looked.answer ∙ ap (λ o. unless_lost o (verdict p (blocks card))) kept) ∙ is in
             few_touches _ (omega (
@@ -95,11 +87,7 @@ module _ {C : Type 0} (kind : CardKind C) (p : Profile) (number : ℕ) (card : C
     module _ (later : C) (d : Directory) (w : Taken kind (check_look p) card later (Ok d)) where
       -- a check that was not refused lost no read
       pub kept : verdict p (blocks card) ≡ Ok d
-      kept = by_lost (lost_at (check_look p (blocks card)) w.looked.stay) w.looked.answer
-        where
-          by_lost : (lost : Option ℕ) → Ok d ≡ unless_lost lost (verdict p (blocks card)) → verdict p (blocks card) ≡ Ok d
-          by_lost (Some b) e = grind arith
-          by_lost None e = sym e
+      kept = grind (arith, w.looked.answer)
 
       asked_run : (read_look p number (length before) (blocks card)).touches ≡ reads p (blocks card) ++ touches_after (room_for d number (length before)) (run_look (blocks card))
       asked_run = asked_after ∙ ap (λ a. reads p (blocks card) ++ touches_after a (after_check number (length before) (blocks card))) kept
