@@ -46,9 +46,7 @@ found_on_card p blocks d number f e found = by_place (lowest_of (λ i. number_is
   where
     by_slot : (i : ℕ) (o : Option Slot) → i < 11 → slot_at d.services.bytes i ≡ o → slot_found i o ≡ Ok f → on_card f.run.start.0 f.run.length ≡ true
     by_slot i None h is found = grind arith
-    by_slot i (Some s) h is found =
-        let same : s.run ≡ f.run = cc in
-        subst (λ r. on_card r.start.0 r.length ≡ true) same (slot_on_card d i s (lowest_all (wrong_slot d) 11 (none_wrong d (slots_judged_lem p blocks d e)) i h) is)
+    by_slot i (Some s) h is found = grind (arith, slot_on_card d i s (lowest_all (wrong_slot d) 11 (none_wrong d (slots_judged_lem p blocks d e)) i h) is)
 
     by_place : (o : Option ℕ) → lowest_of (λ i. number_is number (slot_at d.services.bytes i)) 11 ≡ o → found_at d o ≡ Ok f → on_card f.run.start.0 f.run.length ≡ true
     by_place None is found = grind arith
