@@ -1,6 +1,7 @@
 -- Blocks of sixteen bytes. Assumes nothing.
-use Rattle.std.proofs.Common.{◌≡◌, ℕ, ◌+◌, ◌-◌, ◌*◌, ◌<◌, List, length, get_or, take, drop, sym, ap, ◌∙◌, ⊎_elim, zero-add, rules}
+use Rattle.std.proofs.Common.{◌≡◌, ℕ, ◌+◌, ◌-◌, ◌*◌, ◌<◌, List, length, get_or, take, drop, sym, ap, ◌∙◌, ⊎_elim, zero-add, arith, rules}
 use borrow.Rule.Slice.PartMut.{put_mid}
+use Rattle.std.proofs.lemmas.Grind.{common_steps}
 use Rattle.std.proofs.lemmas.List.FromFn.{fill_by_all, get_or-map-range_with_len}
 use Rattle.std.proofs.lemmas.List.{places}
 use Rattle.std.proofs.lemmas.Bool.{cases_eq, cases_lt, eq-eqb, ne_eqb, cond-true, cond-false}
@@ -35,8 +36,4 @@ pub put_same : (blocks : Blocks) (at : ℕ) → put blocks at (blocks at) ≡ bl
 put_same blocks at = λ j b. each b j
   where
     each : (b : ℕ) → put blocks at (blocks at) b ≡ blocks b
-    each b =
-        ⊎_elim
-        (λ e. cond-true _ _ _ (eq-eqb b at e) ∙ ap blocks (sym e))
-        (λ ne. cond-false _ _ _ (ne_eqb b at ne))
-        (cases_eq b at)
+    each b = grind (arith, common_steps)

@@ -1,5 +1,5 @@
 -- The write that is broken off. Assumes nothing.
-use Rattle.std.proofs.Common.{◌≡◌, ℕ, zero, suc, false, sym, ap, ◌∙◌}
+use Rattle.std.proofs.Common.{◌≡◌, ℕ, zero, suc, false, arith}
 use Rattle.std.proofs.lemmas.Bool.{true≢false}
 use Rattle.card.specs.Tears.{is_answered}
 use Rattle.card.specs.declared.tear.Phase.{Phase}
@@ -8,4 +8,4 @@ use Rattle.card.specs.declared.tear.Phase.TheVariants.{Here}
 -- a card that is here and does not answer has no answers left
 pub none_left : (p : Phase) (n : ℕ) → p ≡ Here n → is_answered p ≡ false → p ≡ Here 0
 none_left p zero here no_answer = here
-none_left p (suc n) here no_answer = absurd (true≢false (sym (ap is_answered here) ∙ no_answer))
+none_left p (suc n) here no_answer = grind arith

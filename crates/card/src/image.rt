@@ -49,6 +49,7 @@ impl Card for ImageCard<'_> {
 }
 
 // The sixteen bytes of a block.
+#[tactic(auto, using(crate::proofs::Sixteen::part_is))]
 pub(crate) fn block_of(image: &Image, block: Block) -> [u8; 16]
     ensures { result ≡ blocks_of image.now block.0 }
 {

@@ -113,6 +113,7 @@ impl Card for TearCard<'_> {
         }
     }
 
+    #[tactic(auto, using(crate::proofs::TornWrites::none_left))]
     fn write(&mut self, block: Block, bytes: &[u8; 16]) -> Result<(), Gone>
         ensures says { WriteSays (tear_blocks self.old) (is_on self.old.phase) (tear_blocks self.new) (is_on self.new.phase) block.0 bytes.now result }
         ensures steady { Stays self.old → (is_ok result ≡ true) × Stays self.new }
@@ -152,6 +153,7 @@ impl Card for TearCard<'_> {
 }
 
 // What a write that is broken off leaves.
+#[tactic(auto, using(crate::proofs::Sixteen::put_same, crate::specs::Blocks::length_sixteen))]
 fn tear_block(image: &mut Image, block: Block, bytes: &[u8; 16], torn: Torn)
     ensures put { blocks_of image.new ≡ put (blocks_of image.old) block.0 (torn_bytes torn (blocks_of image.old block.0) bytes.now) }
     ensures whole { length (torn_bytes torn (blocks_of image.old block.0) bytes.now) ≡ 16 }

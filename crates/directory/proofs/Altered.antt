@@ -4,6 +4,10 @@ use native.Mathlib.Nat.{suc_inj}
 use Rattle.std.proofs.ByRecursion.{All-append}
 use Rattle.std.proofs.lemmas.List.{places}
 use Rattle.std.proofs.lemmas.Bool.{eqb-true, eq-eqb, ne_eqb, cond-true, cond-false, cases_lt, cases_eq, false≢true}
+use Rattle.std.proofs.lemmas.Grind.{common_steps}
+use Rattle.std.proofs.lemmas.List.{get_or_append_left}
+use Rattle.std.proofs.lemmas.Option.{gets}
+use Rattle.std.proofs.lemmas.List.FromFn.{get_or-range_with_len, length-range_with_len}
 use Rattle.std.specs.List.{slice_get, range_with_len}
 use Rattle.layout.specs.Crc.{crc8}
 use Rattle.layout.specs.Differ.{Bytes, DifferInOne}
@@ -47,19 +51,9 @@ module _ (xs ys zs : List ℕ) (d : DifferInOne xs ys) where
         long = length-append ys zs ∙ ap (λ n. n + length zs) long ∙ sym (length-append xs zs);
         place = at;
         within = omega (arith, length-append xs zs);
-        there = λ e. d.there (sym (get_d_front ys at (omega arith)) ∙ e ∙ get_d_front xs at within);
-        elsewhere = λ k ne.
-            ⊎_elim
-            (λ (low : k < length xs). get_d_front ys k (omega arith) ∙ d.elsewhere k ne ∙ sym (get_d_front xs k low))
-            (λ (high : length xs ≤ k). getD_back ys k (omega arith) ∙ ap (λ n. get_or zs (k - n) 0) long ∙ sym (getD_back xs k high))
-            (cases_lt k (length xs));
+        there = λ e. d.there (sym (get_or_append_left ys zs 0 at (omega arith)) ∙ e ∙ get_or_append_left xs zs 0 at within);
+        elsewhere = λ k ne. grind (arith, common_steps, d.elsewhere k ne, length-append {A = ℕ});
       }
-    where
-      get_d_front : (ws : List ℕ) (k : ℕ) → k < length ws → get_or (ws ++ zs) k 0 ≡ get_or ws k 0
-      get_d_front ws k h = search (rules, places)
-
-      getD_back : (ws : List ℕ) (k : ℕ) → length ws ≤ k → get_or (ws ++ zs) k 0 ≡ get_or zs (k - length ws) 0
-      getD_back ws k h = search (rules, places)
 
 differ_cons : (z : ℕ) (xs ys : List ℕ) → DifferInOne xs ys → DifferInOne (z ∷ xs) (z ∷ ys)
 differ_cons z xs ys d = record {
@@ -89,10 +83,10 @@ Once at (b ∷ bs) = ((b ≡ at) × Absent at bs) ⊎ ((b ≡ at → ⊥) × Onc
 
 module _ (blocks : Blocks) (at : ℕ) (new : List ℕ) where
   put_here : (b : ℕ) → b ≡ at → put blocks at new b ≡ new
-  put_here b e = cond-true _ _ _ (eq-eqb b at e)
+  put_here b e = grind (arith, common_steps)
 
   pub put_away : (b : ℕ) → (b ≡ at → ⊥) → put blocks at new b ≡ blocks b
-  put_away b ne = cond-false _ _ _ (ne_eqb b at ne)
+  put_away b ne = grind (arith, common_steps)
 
   pub agree_absent : (bs : List ℕ) → Absent at bs → Agree bs blocks (put blocks at new)
   unfolding Absent
@@ -132,21 +126,14 @@ unfolding Absent
 absent_counting at from zero h = tt
 absent_counting at from (suc n) h = (λ e. absurd (omega arith), absent_counting at (from + 1) n (omega arith))
 
-pub nth_counting : (from n k at : ℕ) → slice_get (range_with_len from n) k ≡ Some at → from ≤ at
-nth_counting from zero k at e = let z : ◌≡◌ {A = ℕ} 0 1 = cc in absurd (omega arith)
-nth_counting from (suc n) zero at e = let same : from ≡ at = cc in omega arith
-nth_counting from (suc n) (suc k) at e = let low = nth_counting (from + 1) n k at e in omega arith
-
-pub nth_counting_lt : (from n k at : ℕ) → slice_get (range_with_len from n) k ≡ Some at → at < from + n
-nth_counting_lt from zero k at e = let z : ◌≡◌ {A = ℕ} 0 1 = cc in absurd (omega arith)
-nth_counting_lt from (suc n) zero at e = let same : from ≡ at = cc in omega arith
-nth_counting_lt from (suc n) (suc k) at e = let low = nth_counting_lt (from + 1) n k at e in omega arith
+pub nth_counting : (from n k at : ℕ) → slice_get (range_with_len from n) k ≡ Some at → (from ≤ at) × (at < from + n)
+nth_counting from n k at e = (grind (arith, gets, get_or-range_with_len, length-range_with_len), grind (arith, gets, get_or-range_with_len, length-range_with_len))
 
 pub once_counting : (from n k at : ℕ) → slice_get (range_with_len from n) k ≡ Some at → Once at (range_with_len from n)
 unfolding Once
-once_counting from zero k at e = let z : ◌≡◌ {A = ℕ} 0 1 = cc in absurd (omega arith)
+once_counting from zero k at e = grind arith
 once_counting from (suc n) zero at e = let same : from ≡ at = cc in inl (same, absent_counting at (from + 1) n (omega arith))
-once_counting from (suc n) (suc k) at e = let low = nth_counting (from + 1) n k at e in inr (λ same. absurd (omega arith), once_counting (from + 1) n k at e)
+once_counting from (suc n) (suc k) at e = let low = (nth_counting (from + 1) n k at e).0 in inr (λ same. absurd (omega arith), once_counting (from + 1) n k at e)
 
 -- a block is not among others that lie below or above
 pub absent_counted : (at from n : ℕ) → (at < from) ⊎ (from + n ≤ at) → Absent at (range_with_len from n)

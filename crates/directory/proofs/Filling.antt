@@ -2,8 +2,9 @@
 use Rattle.std.proofs.Common.{◌≡◌, ℕ, zero, suc, ◌+◌, ◌-◌, ◌*◌, ◌<◌, ◌≤◌, Bool, true, false, not, ◌&&◌, List, [], ◌∷◌, ◌++◌, length, get_or, take, is_some, Some, Ok, Err, sym, refl, ap, ◌∙◌, ⊎_elim, append_assoc, append-nil, arith, length-append, length-take}
 use native.Mathlib.Nat.{min-eq_left}
 use borrow.Rule.Slice.PartMut.{put_mid}
+use Rattle.std.proofs.Math.Bool.{and-true, and-false}
 use Rattle.std.proofs.lemmas.List.{take_all, take_more}
-use Rattle.std.proofs.lemmas.Option.{slice_get-get_or, slice_get_past}
+use Rattle.std.proofs.lemmas.Option.{slice_get_past, gets}
 use Rattle.std.proofs.lemmas.Bool.{cases_Bool, cases_lt, both_ways}
 use Rattle.std.specs.List.{slice_get}
 use Rattle.layout.specs.Buffers.{overlaid}
@@ -16,17 +17,9 @@ use Rattle.card.specs.declared.interface.Card.{Ghosts as CardKind}
 use Rattle.directory.specs.Looks.{lost_at, unless_lost, Taken}
 use Rattle.directory.specs.Reads.{block_look, joined, Filled}
 
-and_true : (b : Bool) → (b && true) ≡ b
-and_true true = refl
-and_true false = refl
-
-and_false : (b : Bool) → (b && false) ≡ false
-and_false true = refl
-and_false false = refl
-
 joined_append : (blocks : Blocks) (xs ys : List ℕ) → joined blocks (xs ++ ys) ≡ joined blocks xs ++ joined blocks ys
 joined_append blocks [] ys = refl
-joined_append blocks (x ∷ xs) ys = ap (λ t. blocks x ++ t) (joined_append blocks xs ys) ∙ sym (append_assoc (blocks x) (joined blocks xs) (joined blocks ys))
+joined_append blocks (x ∷ xs) ys = simp (append_assoc, joined_append blocks xs ys)
 
 module _ {C : Type 0} (kind : CardKind C) where
   open kind use {blocks, present, steady, full}
@@ -57,10 +50,10 @@ module _ {C : Type 0} (kind : CardKind C) where
   one t card later bytes w = at_stay w.looked.stay w.looked.off w.looked.answer w.looked.is
     where
       at_stay : (stay : ℕ) → (present card ≡ false → stay ≡ 0) → Ok bytes ≡ unless_lost (lost_at (block_look t (blocks card)) stay) (Ok (blocks card t)) → present later ≡ (present card && not (is_some (lost_at (block_look t (blocks card)) stay))) → One t card later bytes
-      at_stay zero off answer is = let z : ◌≡◌ {A = ℕ} 0 1 = cc in absurd (omega arith)
+      at_stay zero off answer is = grind arith
       at_stay (suc n) off answer is =
-          let on : present card ≡ true = ⊎_elim (λ e. e) (λ e. let z = off e in absurd (omega arith)) (cases_Bool (present card)) in
-          record { value = cc; on = on; level = is ∙ ap (λ b. b && true) on ∙ sym on; same = w.looked.same }
+          let on : present card ≡ true = grind (arith, off) in
+          record { value = cc; on = on; level = grind (arith, is, on); same = w.looked.same }
 
   -- a block was not read
   pub record Lost (t : ℕ) (card later : C) (e : Refusal) : Type 0 where
@@ -73,11 +66,11 @@ module _ {C : Type 0} (kind : CardKind C) where
   lost t card later e w = at_stay w.looked.stay w.looked.answer w.looked.is
     where
       loose : steady card → ⊥
-      loose s = let p = (w.firm s).0 in let z : ◌≡◌ {A = ℕ} 0 1 = cc in absurd (omega arith)
+      loose s = let p = (w.firm s).0 in grind arith
 
       at_stay : (stay : ℕ) → Err e ≡ unless_lost (lost_at (block_look t (blocks card)) stay) (Ok (blocks card t)) → present later ≡ (present card && not (is_some (lost_at (block_look t (blocks card)) stay))) → Lost t card later e
-      at_stay zero answer is = record { gone = cc; off = is ∙ and_false (present card); same = w.looked.same; loose = loose }
-      at_stay (suc n) answer is = let z : ◌≡◌ {A = ℕ} 0 1 = cc in absurd (omega arith)
+      at_stay zero answer is = record { gone = cc; off = grind (arith, is); same = w.looked.same; loose = loose }
+      at_stay (suc n) answer is = grind arith
 
   module _ (touches : List ℕ) (i t : ℕ) (here : slice_get touches i ≡ Some t) where
     pub progress_gone : (card later last : C) (before after : List ℕ) (e : Refusal) → Progress touches i card later before after → Taken kind (block_look t) later last (Err e) → Filled kind touches card last before after (Err e)
@@ -88,9 +81,9 @@ module _ {C : Type 0} (kind : CardKind C) where
             looked = record {
               stay = i;
               off = p.off;
-              answer = ap Err q.gone ∙ ap (λ o. unless_lost o (Ok tt)) (sym here);
+              answer = grind (arith, q.gone, here);
               same = q.same ∙ p.same;
-              is = q.off ∙ sym (and_false (present card)) ∙ ap (λ o. present card && not (is_some o)) (sym here);
+              is = grind (arith, q.off, here);
             };
             firm = λ s. absurd (q.loose (p.firm s));
           };
@@ -104,7 +97,7 @@ module _ {C : Type 0} (kind : CardKind C) where
         let value : bytes ≡ blocks card t = q.value ∙ ap (λ b. b t) p.same in
         let long : length bytes ≡ 16 = ap length value ∙ full card t in
         let wide : length front ≡ 16 * i = length_joined card (take i touches) ∙ ap (λ n. 16 * n) (length-take i touches ∙ min-eq_left (omega arith)) in
-        let at_i : get_or touches i 0 ≡ t = let found = slice_get-get_or touches i 0 within in cc in
+        let at_i : get_or touches i 0 ≡ t = grind (arith, gets) in
         let read : joined (blocks card) (take (i + 1) touches) ≡ front ++ bytes =
         ap (joined (blocks card)) (take_more touches i 0 within ∙ ap (λ x. take i touches ++ x ∷ []) at_i)
         ∙ joined_append (blocks card) (take i touches) (t ∷ [])
@@ -128,9 +121,9 @@ module _ {C : Type 0} (kind : CardKind C) where
           looked = record {
             stay = i;
             off = p.off;
-            answer = ap (λ o. unless_lost o (Ok tt)) (sym none);
+            answer = grind (arith, none);
             same = p.same;
-            is = p.level ∙ sym (and_true (present card)) ∙ ap (λ o. present card && not (is_some o)) (sym none);
+            is = grind (arith, p.level, none);
           };
           firm = λ s. (refl, p.firm s);
         };
@@ -144,11 +137,7 @@ module _ {C : Type 0} (kind : CardKind C) where
 
   -- a card that answered every read stayed for all of them
   stayed : (touches : List ℕ) (stay : ℕ) → ◌≡◌ {A = Answer (Unit {0})} (Ok tt) (unless_lost (slice_get touches stay) (Ok tt)) → length touches ≤ stay
-  stayed touches stay e =
-      ⊎_elim
-      (λ less. let found = slice_get-get_or touches stay 0 less in let z : ◌≡◌ {A = ℕ} 0 1 = cc in absurd (omega arith))
-      (λ past. past)
-      (cases_lt stay (length touches))
+  stayed touches stay e = grind (arith, gets)
 
   -- then the buffer's front holds all of the blocks
   pub filled_whole : (touches : List ℕ) (card later : C) (before after : List ℕ) → Filled kind touches card later before after (Ok tt) → after ≡ overlaid (joined (blocks card) touches) before

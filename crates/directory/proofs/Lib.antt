@@ -5,10 +5,8 @@ pub mod KnownFigures
 pub mod Locality
 pub mod Looking
 pub mod MadPlaces
-pub mod ReadEntries
 pub mod OneAltered
 pub mod RunTouches
-pub mod Sealed
 pub mod Searching
 pub mod SealedReads
 pub mod WrittenEntries

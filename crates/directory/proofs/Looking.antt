@@ -1,6 +1,9 @@
 -- Looks at a card, one after another. Assumes nothing.
-use Rattle.std.proofs.Common.{◌≡◌, ℕ, zero, suc, ◌+◌, Bool, true, false, not, ◌&&◌, List, [], ◌∷◌, ◌++◌, length, is_some, Some, None, Ok, Err, Option, sym, refl, ap, ◌∙◌, subst, append-nil, suc-add, zero-add, arith}
+use Rattle.std.proofs.Common.{◌≡◌, ℕ, zero, suc, ◌+◌, Bool, true, false, not, ◌&&◌, List, [], ◌∷◌, ◌++◌, length, is_some, Some, None, Ok, Err, Option, sym, refl, ap, ◌∙◌, subst, append-nil, suc-add, zero-add, arith, length-append}
 use Rattle.std.proofs.lemmas.Bool.{both_ways}
+use Rattle.std.proofs.Math.Bool.{and-true}
+use Rattle.std.proofs.lemmas.List.{get_or_append_left, get_or-append-add}
+use Rattle.std.proofs.lemmas.Option.{gets}
 use Rattle.std.specs.List.{slice_get}
 use Rattle.layout.specs.Refusals.{refusal, refuse, Answer, then}
 use Rattle.layout.specs.declared.refusals.Reason.TheVariants.{CardGone}
@@ -11,42 +14,25 @@ use Rattle.card.specs.declared.interface.Card.{Ghosts as CardKind}
 use Rattle.directory.specs.Looks.{Look, judged, touches_after, then_look, lost_at, unless_lost, Looked, Taken}
 use Rattle.directory.specs.Reads.{block_look}
 
-and_true : (b : Bool) → (b && true) ≡ b
-and_true true = refl
-and_true false = refl
-
--- a block that was read
-pub looked_block : {before after : Blocks} {on still : Bool} {at : ℕ} {bytes : List ℕ} → Read before on after still at bytes → Looked (block_look at before) before on after still (Ok bytes)
-looked_block {on} w = record {
-  stay = 1;
-  off = λ o. absurd (both_ways on o w.was);
-  answer = ap Ok w.value;
-  same = w.same;
-  is = w.is ∙ sym w.was ∙ sym (and_true on);
-}
-
 -- nothing was read
 pub looked_none : {X : Type 0} (r : Answer X) (blocks : Blocks) (on : Bool) → Looked (judged r) blocks on blocks on r
-looked_none r blocks on = record { stay = 0; off = λ _. refl; answer = refl; same = refl; is = sym (and_true on) }
+looked_none r blocks on = record { stay = 0; off = λ _. refl; answer = refl; same = refl; is = sym (and-true on) }
 
 nth_none : (xs : List ℕ) → slice_get xs 0 ≡ None → length xs ≡ 0
 nth_none [] e = refl
-nth_none (x ∷ xs) e = let z : ◌≡◌ {A = ℕ} 0 1 = cc in omega arith
+nth_none (x ∷ xs) e = grind arith
 
 nth_front : (xs ys : List ℕ) (i b : ℕ) → slice_get xs i ≡ Some b → slice_get (xs ++ ys) i ≡ Some b
-nth_front [] ys i b e = let z : ◌≡◌ {A = ℕ} 0 1 = cc in absurd (omega arith)
-nth_front (x ∷ xs) ys zero b e = e
-nth_front (x ∷ xs) ys (suc i) b e = nth_front xs ys i b e
+nth_front xs ys i b e = grind (arith, gets, length-append {A = ℕ}, get_or_append_left)
 
 nth_back : (xs ys : List ℕ) (i : ℕ) → slice_get (xs ++ ys) (length xs + i) ≡ slice_get ys i
-nth_back [] ys i = ap (slice_get ys) (zero-add i)
-nth_back (x ∷ xs) ys i = ap (slice_get (x ∷ (xs ++ ys))) (suc-add (length xs) i) ∙ nth_back xs ys i
+nth_back xs ys i = grind (arith, gets, length-append {A = ℕ}, get_or-append-add)
 
 module _ {X Y : Type 0} (l : Look X) (next : X → Look Y) where
   -- the answer of a look that was not lost
   kept : (lost : Option ℕ) (x : X) (r : Answer X) → r ≡ unless_lost lost l.answer → r ≡ Ok x → (lost ≡ None) × (l.answer ≡ Ok x)
   kept None x r e is = (refl, sym e ∙ is)
-  kept (Some b) x r e is = let z : ◌≡◌ {A = ℕ} 0 1 = cc in absurd (omega arith)
+  kept (Some b) x r e is = grind arith
 
   -- the first look is a refusal
   pub looked_stop : {b after : Blocks} {on still : Bool} {r : Answer X} {e : Refusal} → Looked l b on after still r → r ≡ Err e → Looked (then_look l next) b on after still (Err e)
@@ -57,37 +43,25 @@ module _ {X Y : Type 0} (l : Look X) (next : X → Look Y) where
       stopped : (lost : Option ℕ) → lost_at l w.stay ≡ lost
           → (Err e ≡ unless_lost (lost_at (then_look l next) w.stay) (then l.answer (λ x. (next x).answer))) × (still ≡ (on && not (is_some (lost_at (then_look l next) w.stay))))
       stopped None none =
-          let refused : l.answer ≡ Err e = sym (w.answer ∙ ap (λ o. unless_lost o l.answer) none) ∙ is in
-          let lost : lost_at (then_look l next) w.stay ≡ lost_at l w.stay =
-          ap (λ a. slice_get (l.touches ++ touches_after a next) w.stay) refused ∙ ap (λ t. slice_get t w.stay) (append-nil l.touches) in (
-            ap (λ a. then a (λ x. (next x).answer)) (sym refused) ∙ ap (λ o. unless_lost o (then l.answer (λ x. (next x).answer))) (sym (lost ∙ none)),
-            w.is ∙ ap (λ o. on && not (is_some o)) (sym lost),
-          )
+          let refused : l.answer ≡ Err e = grind (arith, w.answer, none) in (simp (refused, append-nil, none) refl, simp (refused, append-nil) w.is)
       stopped (Some at) some =
-          let gone : r ≡ refuse CardGone at = w.answer ∙ ap (λ o. unless_lost o l.answer) some in
-          let which : e ≡ refusal CardGone at = cc in
-          let lost : lost_at (then_look l next) w.stay ≡ Some at = nth_front l.touches _ w.stay at some in (
-            ap Err which ∙ ap (λ o. unless_lost o (then l.answer (λ x. (next x).answer))) (sym lost),
-            w.is ∙ ap (λ o. on && not (is_some o)) (some ∙ sym lost),
-          )
+          let lost = nth_front l.touches (touches_after l.answer next) w.stay at some in (grind (arith, w.answer, some, lost), grind (arith, w.is, some, lost))
 
   -- the first look is none
   pub looked_then : {b after later : Blocks} {on still last : Bool} {r : Answer X} {s : Answer Y} (x : X) → Looked l b on after still r → r ≡ Ok x → Looked (next x) after still later last s → Looked (then_look l next) b on later last s
   looked_then {b} {after} {later} {on} {still} {last} {r} {s} x w is v =
       let k = kept (lost_at l w.stay) x r w.answer is in
-      let level : still ≡ on = w.is ∙ ap (λ o. on && not (is_some o)) k.0 ∙ and_true on in
+      let level : still ≡ on = w.is ∙ ap (λ o. on && not (is_some o)) k.0 ∙ and-true on in
       let stay = length l.touches + v.stay in
-      let lost : lost_at (then_look l next) stay ≡ lost_at (next x) v.stay =
-      ap (λ a. slice_get (l.touches ++ touches_after a next) stay) k.1 ∙ nth_back l.touches (next x).touches v.stay in
       record {
         stay = stay;
         off = λ o.
             let none : length l.touches ≡ 0 = nth_none l.touches (ap (slice_get l.touches) (sym (w.off o)) ∙ k.0) in
             let zero : v.stay ≡ 0 = v.off (level ∙ o) in
             omega arith;
-        answer = v.answer ∙ ap (λ o. unless_lost o (next x).answer) (sym lost) ∙ ap (λ a. unless_lost (lost_at (then_look l next) stay) (then a (λ y. (next y).answer))) (sym k.1);
+        answer = simp (k.1, nth_back) v.answer;
         same = v.same ∙ w.same;
-        is = v.is ∙ ap (λ o. o && not (is_some (lost_at (next x) v.stay))) level ∙ ap (λ o. on && not (is_some o)) (sym lost);
+        is = simp (k.1, nth_back) (rw level at v.is);
       }
 
 -- nothing was read of a card of any kind

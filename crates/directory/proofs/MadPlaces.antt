@@ -1,5 +1,5 @@
 -- Where the application directories stand. Assumes nothing.
-use Rattle.std.proofs.Common.{◌≡◌, ◌+◌, ◌≤◌, true, refl, lit≤}
+use Rattle.std.proofs.Common.{◌≡◌, ◌+◌, ◌≤◌, true, refl, arith}
 use Rattle.layout.specs.Blocks.{rank_of}
 use Rattle.layout.specs.Profiles.{mad_of}
 use Rattle.layout.specs.Runs.{on_card}
@@ -15,16 +15,8 @@ mad_on_card D = refl
 mad_on_card E = refl
 
 pub mad_few : (p : Profile) → (mad_of p).run.length ≤ 3
-mad_few A = lit≤ tt
-mad_few B = lit≤ tt
-mad_few C = lit≤ tt
-mad_few D = lit≤ tt
-mad_few E = lit≤ tt
+mad_few p = grind arith
 
 -- every listed sector is on the card
 pub mad_listed : (p : Profile) → (mad_of p).first_listed.0 + (mad_of p).listed ≤ 40
-mad_listed A = lit≤ tt
-mad_listed B = lit≤ tt
-mad_listed C = lit≤ tt
-mad_listed D = lit≤ tt
-mad_listed E = lit≤ tt
+mad_listed p = grind arith

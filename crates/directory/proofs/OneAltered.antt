@@ -2,7 +2,9 @@
 use Rattle.std.proofs.Common.{◌≡◌, ℕ, ◌+◌, ◌*◌, ◌<◌, ◌≤◌, Bool, true, false, ◌&&◌, eqb, ◌⊎◌, List, [], ◌∷◌, ◌++◌, Some, Ok, Err, sym, refl, ap, ◌∙◌, subst, inl, inr, ⊎_elim, append-nil, arith}
 use Rattle.std.proofs.lemmas.Bool.{and_parts, eqb-true, cond-true, cond-false, lt-ltb, cases_lt}
 use Rattle.std.proofs.lemmas.Bool.Decides.{nat_tests}
+use Rattle.std.proofs.lemmas.Slice.Eq.{bytes_eq-Decides}
 use Rattle.std.specs.List.{slice_get, range_with_len}
+use Rattle.std.specs.Str.{bytes_eq}
 use Rattle.layout.specs.Blocks.{rank_of, data_block, sector_of, first_of}
 use Rattle.layout.specs.Differ.{Bytes, DifferInOne}
 use Rattle.layout.specs.Profiles.{within, mad_of, nscp_sectors, services_sectors}
@@ -13,6 +15,7 @@ use Rattle.layout.specs.declared.numbers.Sector.{Sector}
 use Rattle.layout.specs.declared.profiles.Profile.{Profile}
 use Rattle.layout.specs.declared.profiles.Profile.TheVariants.{A, B, C, D, E}
 use Rattle.layout.specs.declared.refusals.Reason.TheVariants.{MadChecksum, NscpChecksum, ServicesChecksum}
+use Rattle.layout.proofs.Answered.{then_ok}
 use Rattle.layout.proofs.Below.{at}
 use Rattle.card.specs.Blocks.{Blocks, put}
 use Rattle.directory.specs.Checks.{nscp_accepted, nscp_look_at, nscp_look, together, accepted, services_look, rest_look, check_look, verdict}
@@ -26,32 +29,14 @@ use Rattle.directory.specs.Services.{services_judged}
 use Rattle.directory.specs.Slots.{slots_judged}
 use Rattle.directory.specs.declared.accepted.Directory.{Directory}
 use Rattle.directory.specs.declared.accepted.Nscp.{Nscp}
-use Rattle.directory.proofs.Altered.{Absent, Once, agree_absent, put_away, altered_unsealed, nth_counting, nth_counting_lt, once_counting, absent_counted}
+use Rattle.directory.proofs.Altered.{Absent, Once, agree_absent, put_away, altered_unsealed, nth_counting, once_counting, absent_counted}
 use Rattle.directory.proofs.DirectoryPlaces.{cond_ok, nscp_small, nscp_allowed, services_small, services_place}
 use Rattle.directory.proofs.Locality.{Local, local_mad, local_nscp}
 
--- the parts of an answer that was accepted
-then_ok : {X Y : Type 0} (a : Answer X) (f : X → Answer Y) (y : Y) → then a f ≡ Ok y → (x : X) × (a ≡ Ok x) × (f x ≡ Ok y)
-then_ok (Ok x) f y e = (x, refl, e)
-then_ok (Err r) f y e = let z : ◌≡◌ {A = ℕ} 0 1 = cc in absurd (omega arith)
-
-same_list : List ℕ → List ℕ → Bool
-same_list [] [] = true
-same_list [] (y ∷ ys) = false
-same_list (x ∷ xs) [] = false
-same_list (x ∷ xs) (y ∷ ys) = eqb x y && same_list xs ys
-
-same_list_true : (xs ys : List ℕ) → same_list xs ys ≡ true → xs ≡ ys
-unfolding same_list
-same_list_true [] [] e = refl
-same_list_true [] (y ∷ ys) e = let z : ◌≡◌ {A = ℕ} 0 1 = cc in absurd (omega arith)
-same_list_true (x ∷ xs) [] e = let z : ◌≡◌ {A = ℕ} 0 1 = cc in absurd (omega arith)
-same_list_true (x ∷ xs) (y ∷ ys) e = let p = and_parts (eqb x y) (same_list xs ys) e in λ i. eqb-true x y p.0 i ∷ same_list_true xs ys p.1 i
-
 -- the blocks of the directories are consecutive
 sector_touches : (s : ℕ) → s < 32 → run_touches (first_of s) 3 ≡ range_with_len (first_of s) 3
-unfolding run_touches run_block data_block rank_of same_list
-sector_touches s h = same_list_true _ _ (at (λ k. same_list (run_touches (first_of k) 3) (range_with_len (first_of k) 3)) 32 refl s h)
+unfolding run_touches run_block data_block rank_of
+sector_touches s h = (bytes_eq-Decides _ _).0 (at (λ k. bytes_eq (run_touches (first_of k) 3) (range_with_len (first_of k) 3)) 32 refl s h)
 
 mad_touches : (p : Profile) → run_touches (mad_of p).run.start.0 (mad_of p).run.length ≡ range_with_len (mad_of p).run.start.0 (mad_of p).run.length
 unfolding run_touches run_block data_block rank_of
@@ -63,28 +48,16 @@ mad_touches E = refl
 
 -- the trailer follows the application directory, and the other directories lie above it
 mad_trailer : (p : Profile) → (mad_of p).run.start.0 + (mad_of p).run.length ≡ (mad_of p).trailer.0
-mad_trailer A = refl
-mad_trailer B = refl
-mad_trailer C = refl
-mad_trailer D = refl
-mad_trailer E = refl
+mad_trailer p = grind arith
 
 first_is : (s : ℕ) → s < 32 → first_of s ≡ 4 * s
 first_is s h = cond-true _ _ _ (lt-ltb s 32 h)
 
 nscp_above : (p : Profile) (s : ℕ) → within (nscp_sectors p) s ≡ true → (mad_of p).trailer.0 < 4 * s
-nscp_above A s h = grind (arith, nat_tests)
-nscp_above B s h = grind (arith, nat_tests)
-nscp_above C s h = grind (arith, nat_tests)
-nscp_above D s h = grind (arith, nat_tests)
-nscp_above E s h = grind (arith, nat_tests)
+nscp_above p s h = grind (arith, nat_tests)
 
 services_above : (p : Profile) (s : ℕ) → within (services_sectors p) s ≡ true → (mad_of p).trailer.0 < 4 * s
-services_above A s h = grind (arith, nat_tests)
-services_above B s h = grind (arith, nat_tests)
-services_above C s h = grind (arith, nat_tests)
-services_above D s h = grind (arith, nat_tests)
-services_above E s h = grind (arith, nat_tests)
+services_above p s h = grind (arith, nat_tests)
 
 -- what an accepted card has shown
 record Shown (p : Profile) (blocks : Blocks) (d : Directory) : Type 0 where
@@ -174,8 +147,7 @@ module _ (p : Profile) (blocks : Blocks) (d : Directory) (at : ℕ) (new : List 
 
   inside : (start n : ℕ) → run_touches start n ≡ range_with_len start n → BlockOf start n at → (start ≤ at) × (at < start + n)
   inside start n is b =
-      let there = subst (λ ts. slice_get ts b.place ≡ Some at) is b.there in
-      (nth_counting start n b.place at there, nth_counting_lt start n b.place at there)
+      nth_counting start n b.place at (subst (λ ts. slice_get ts b.place ≡ Some at) is b.there)
 
   -- blocks that lie apart are as they were
   agree_apart : (start n : ℕ) → run_touches start n ≡ range_with_len start n → (at < start) ⊎ (start + n ≤ at) → Agree (run_touches start n) blocks after

@@ -1,7 +1,7 @@
 -- The blocks that a run names. Assumes nothing.
 use Rattle.std.proofs.Common.{◌≡◌, ℕ, ◌<◌, length, Some, None, Option, unwrap_or, refl, ap, ◌∙◌, zero-add, arith}
 use Rattle.std.proofs.lemmas.List.FromFn.{length-map-range_with_len, get_or-map-range_with_len}
-use Rattle.std.proofs.lemmas.Option.{slice_get-get_or}
+use Rattle.std.proofs.lemmas.Option.{gets}
 use Rattle.std.specs.List.{slice_get}
 use Rattle.std.specs.Option.{option_map}
 use Rattle.layout.specs.Blocks.{to_block}
@@ -16,15 +16,8 @@ length_touches start n = length-map-range_with_len (λ i. unwrap_or (run_block s
 pub nth_touches : (start n i t : ℕ) → i < n → run_block start n i ≡ Some t → slice_get (run_touches start n) i ≡ Some t
 unfolding run_touches
 nth_touches start n i t h e =
-    let f : ℕ → ℕ = λ j. unwrap_or (run_block start n j) 0 in
-    let within : i < length (run_touches start n) = omega (arith, length-map-range_with_len f 0 n) in
-    slice_get-get_or (run_touches start n) i 0 within ∙ ap Some (get_or-map-range_with_len f 0 n i i 0 h (zero-add i) ∙ ap (λ o. unwrap_or o 0) e)
+    grind (arith, gets, length-map-range_with_len, get_or-map-range_with_len)
 
 -- the block that the code has
 pub mapped_some : (o : Option ℕ) (b : Block) → option_map to_block o ≡ Some b → o ≡ Some b.0
-mapped_some None b e = let z : ◌≡◌ {A = ℕ} 0 1 = cc in absurd (omega arith)
-mapped_some (Some x) b e = let same : to_block x ≡ b = cc in ap (λ c. Some c.0) same
-
-pub mapped_none : (o : Option ℕ) → option_map to_block o ≡ None → o ≡ None
-mapped_none None e = refl
-mapped_none (Some x) e = let z : ◌≡◌ {A = ℕ} 0 1 = cc in absurd (omega arith)
+mapped_some o b e = grind arith

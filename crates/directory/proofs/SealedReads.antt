@@ -1,6 +1,7 @@
 -- A directory that was read. Assumes nothing.
 use Rattle.std.proofs.Common.{◌≡◌, ℕ, ◌-◌, ◌*◌, ◌≤◌, Bool, true, false, leb, List, length, take, drop, replicate, Ok, Err, sym, refl, ap, ◌∙◌, subst, arith}
 use lib.Seq.{take-append_seam}
+use Rattle.std.proofs.lemmas.Grind.{common_steps}
 use Rattle.std.proofs.lemmas.Bool.{and_from, cond-true, cond-false, le-leb}
 use Rattle.layout.specs.Refusals.{refusal, Answer}
 use Rattle.layout.specs.Runs.{on_card}
@@ -17,7 +18,7 @@ use Rattle.directory.proofs.Looking.{taken_judge}
 use Rattle.directory.proofs.RunTouches.{length_touches}
 
 pub whole_run : (start n room : ℕ) → on_card start n ≡ true → 16 * n ≤ room → run_reads start n room ≡ run_touches start n
-whole_run start n room on fits = cond-true _ _ _ (and_from (on_card start n) (leb (16 * n) room) on (le-leb _ _ fits))
+whole_run start n room on fits = grind (arith, common_steps)
 
 module _ {C : Type 0} (kind : CardKind C)
     (start n : ℕ) (on : on_card start n ≡ true) (few : n ≤ 3) (card later : C) (after : List ℕ)
@@ -28,10 +29,10 @@ module _ {C : Type 0} (kind : CardKind C)
   whole = whole_run start n 48 on (omega arith)
 
   pub bytes_are : after ≡ padded (directory_bytes start n (blocks card))
-  bytes_are = filled_whole kind (run_reads start n 48) card later (replicate 48 0) after filled ∙ ap (λ t. padded (joined (blocks card) t)) whole
+  bytes_are = grind (arith, filled_whole kind (run_reads start n 48) card later (replicate 48 0) after filled, whole)
 
   long : length (directory_bytes start n (blocks card)) ≡ 16 * n
-  long = length_joined kind card (run_touches start n) ∙ ap (λ k. 16 * k) (length_touches start n)
+  long = grind (arith, length_joined, length_touches)
 
   -- the part of the buffer that was filled
   pub part_are : take (16 * n - 0) (drop 0 after) ≡ directory_bytes start n (blocks card)
@@ -46,7 +47,7 @@ module _ {C : Type 0} (kind : CardKind C)
       (subst (λ t. Taken kind (touch_look t) card later (Ok tt)) whole filled.taken) refl e
 
   pub unsealed : (why : Reason) (e : Refusal) → e ≡ refusal why start → sealed (take (16 * n - 0) (drop 0 after)) ≡ false → Taken kind (sealed_look why start n) card later (Err e)
-  unsealed why e is broken = judged_as why (ap Err is ∙ sym (cond-false _ _ _ (ap sealed (sym part_are) ∙ broken)))
+  unsealed why e is broken = judged_as why (grind (arith, part_are))
 
   pub is_sealed_lem : (why : Reason) → sealed (take (16 * n - 0) (drop 0 after)) ≡ true → Taken kind (sealed_look why start n) card later (Ok after)
-  is_sealed_lem why shut = judged_as why (ap Ok bytes_are ∙ sym (cond-true _ _ _ (ap sealed (sym part_are) ∙ shut)))
+  is_sealed_lem why shut = judged_as why (grind (arith, part_are, bytes_are))

@@ -4,10 +4,20 @@ use lib.ListN.{length-replicate}
 use lib.Seq.{paste}
 use borrow.Rule.Slice.PartMut.{put_mid}
 use Rattle.std.proofs.lemmas.Slice.{put_mid-paste, between-put_mid, between_is, take-put_mid_below, drop-put_mid}
+use Rattle.std.proofs.lemmas.Grind.{common_steps}
 use Rattle.std.proofs.lemmas.Bool.{cond-true, cond-false, le-leb, lt-leb, cases_lt}
 use Rattle.std.specs.List.{between}
 use Rattle.directory.specs.Entries.{unused, parsed, entry_at, printed, entry_put, Fit}
-use Rattle.directory.proofs.ReadEntries.{entry_past, entry_here}
+
+-- what stands at a place, and that nothing does past the end
+module _ {E : Type 0} (header wide : ℕ) (parse : List ℕ → E) (directory : List ℕ) (i : ℕ) where
+  pub entry_past : 48 < header + i * wide + wide → entry_at header wide parse directory i ≡ None
+  unfolding entry_at
+  entry_past past = grind (arith, common_steps)
+
+  pub entry_here : header + i * wide + wide ≤ 48 → entry_at header wide parse directory i ≡ parsed parse (between (header + i * wide) (header + i * wide + wide) directory)
+  unfolding entry_at
+  entry_here here = grind (arith, common_steps)
 
 zeros : (n : ℕ) → unused (replicate n 0) ≡ true
 zeros zero = refl
@@ -35,17 +45,17 @@ module _ {E : Type 0} (header wide : ℕ) (parse : List ℕ → E) (print : E �
   length_printed (Some e) = whole e
 
   parsed_printed : (e : Option E) → Fit fits e → parsed parse (printed print wide e) ≡ e
-  parsed_printed None h = cond-true _ _ _ (zeros wide)
-  parsed_printed (Some e) h = cond-false _ _ _ (used e h) ∙ ap (λ x. Some x) (back e h)
+  parsed_printed None h = grind (arith, zeros wide)
+  parsed_printed (Some e) h = grind (arith, used e h, back e h)
 
   module _ (directory : List ℕ) (full : length directory ≡ 48) (i : ℕ) (e : Option E) where
     put_here : header + i * wide + wide ≤ 48 → entry_put header wide print directory i e ≡ paste directory (header + i * wide) (printed print wide e) wide
     unfolding entry_put
-    put_here here = cond-true _ _ _ (le-leb _ 48 here)
+    put_here here = grind (arith, common_steps)
 
     pub put_past : 48 < header + i * wide + wide → entry_put header wide print directory i e ≡ directory
     unfolding entry_put
-    put_past past = cond-false _ _ _ (lt-leb _ 48 past)
+    put_past past = grind (arith, common_steps)
 
     -- what the code writes
     pub put_part : (part : List ℕ) → part ≡ printed print wide e → header + i * wide + wide ≤ 48 → put_mid (header + i * wide) (header + i * wide + wide - (header + i * wide)) directory part ≡ entry_put header wide print directory i e
@@ -54,29 +64,22 @@ module _ {E : Type 0} (header wide : ℕ) (parse : List ℕ → E) (print : E �
         put_mid-paste a (a + wide - a) directory part (printed print wide e) wide is (omega arith) (sym (length_printed e)) ∙ sym (put_here here)
 
     pub read_back : Fit fits e → header + i * wide + wide ≤ 48 → entry_at header wide parse (entry_put header wide print directory i e) i ≡ e
-    read_back fit here =
-        entry_here header wide parse _ i _ _ _ refl refl refl here
-        ∙ ap (λ d. parsed parse (between (header + i * wide) (header + i * wide + wide) d)) (put_here here)
-        ∙ ap (parsed parse) (between_paste directory (printed print wide e) (header + i * wide) wide (length_printed e) (omega arith))
-        ∙ parsed_printed e fit
+    read_back fit here = grind (arith, entry_here, put_here, between_paste, length_printed e, parsed_printed e fit)
 
     apart : (j : ℕ) → (j ≡ i → ⊥) → (header + j * wide + wide ≤ header + i * wide) ⊎ (header + i * wide + wide ≤ header + j * wide)
     apart j ne =
         ⊎_elim
         (λ (less : j < i). let most : suc j * wide ≤ i * wide = mul-le-mul_right wide less in inl (omega (arith, suc-mul j wide)))
-        (λ (more : i ≤ j). let above : i < j = omega (arith, ne) in let most : suc i * wide ≤ j * wide = mul-le-mul_right wide above in inr (omega (arith, suc-mul i wide)))
+        (λ (more : i ≤ j). let most : suc i * wide ≤ j * wide = mul-le-mul_right wide (omega (arith, ne)) in inr (omega (arith, suc-mul i wide)))
         (cases_lt j i)
 
     pub others_same : (j : ℕ) → (j ≡ i → ⊥) → entry_at header wide parse (entry_put header wide print directory i e) j ≡ entry_at header wide parse directory j
     others_same j ne =
         ⊎_elim
-        (λ (past : 48 < header + i * wide + wide). ap (λ d. entry_at header wide parse d j) (put_past past))
+        (λ (past : 48 < header + i * wide + wide). grind (arith, put_past))
         (λ (here : header + i * wide + wide ≤ 48). ⊎_elim
-        (λ (past : 48 < header + j * wide + wide). entry_past header wide parse _ j _ _ _ refl refl refl past ∙ sym (entry_past header wide parse directory j _ _ _ refl refl refl past))
+        (λ (past : 48 < header + j * wide + wide). grind (arith, entry_past))
         (λ (there : header + j * wide + wide ≤ 48).
-        entry_here header wide parse _ j _ _ _ refl refl refl there
-        ∙ ap (λ d. parsed parse (between (header + j * wide) (header + j * wide + wide) d)) (put_here here)
-        ∙ ap (parsed parse) (between_other directory (printed print wide e) (header + i * wide) (header + j * wide) wide (length_printed e) (omega arith) (apart j ne))
-        ∙ sym (entry_here header wide parse directory j _ _ _ refl refl refl there))
+        grind (arith, entry_here, put_here, between_other directory (printed print wide e) (header + i * wide) (header + j * wide) wide (length_printed e) (omega arith) (apart j ne)))
         (cases_lt 48 (header + j * wide + wide)))
         (cases_lt 48 (header + i * wide + wide))

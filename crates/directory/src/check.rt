@@ -11,6 +11,7 @@ use card::Card;
 use layout::{Profile, Reason, Refusal, Run};
 
 // Reads the directories of a card, each block once and in order, and judges each part before the next is read.
+#[tactic(auto, using(crate::proofs::Locality::reads_decide, crate::proofs::OneAltered::one_altered), unfolding(crate::specs::Checks::check_look))]
 pub fn check_card<C: Card>(card: &mut C, profile: Profile) -> Result<Directory, Refusal>
     ensures look { Taken C.Card (check_look profile) card.old card.new result }
     ensures decide { ReadsDecide profile }
@@ -23,6 +24,7 @@ pub fn check_card<C: Card>(card: &mut C, profile: Profile) -> Result<Directory, 
 }
 
 // The NSCP directory: its sector, its seal, its header and items.
+#[tactic(auto, using(crate::proofs::DirectoryPlaces::nscp_on_card))]
 fn read_nscp<C: Card>(card: &mut C, applications: &Applications) -> Result<Nscp, Refusal>
     ensures look { Taken C.Card (nscp_look applications.now.profile applications.now.bytes) card.old card.new result }
     ensures items { IfOk result (λ n. nscp_judged n.bytes ≡ Ok tt) }
@@ -39,6 +41,7 @@ fn read_nscp<C: Card>(card: &mut C, applications: &Applications) -> Result<Nscp,
 }
 
 // The services directory: its place, its seal, its header and slots.
+#[tactic(auto, using(crate::proofs::DirectoryPlaces::services_on_card))]
 fn read_services<C: Card>(
     card: &mut C,
     applications: Applications,

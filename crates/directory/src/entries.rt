@@ -62,6 +62,7 @@ pub trait Entry: Sized {
 }
 
 // Entry `i` of a directory, counted from 0; none where it is unused or past the end.
+#[tactic(auto, unfolding(crate::specs::Entries::entry_at))]
 pub fn entry_of<E: Entry>(directory: &[u8; 48], i: u8) -> Option<E>
     ensures { result ≡ entry_at E.HEADER E.WIDTH E.parse directory.now i }
 {
@@ -76,6 +77,7 @@ pub fn entry_of<E: Entry>(directory: &[u8; 48], i: u8) -> Option<E>
 }
 
 // Writes entry `i`, or marks it unused; nothing past the end. Reading gives it back, and the other entries are as they were.
+#[tactic(auto, unfolding(crate::specs::Entries::entry_put))]
 pub fn put_entry<E: Entry + Drop>(directory: &mut [u8; 48], i: u8, value: Option<E>)
     ensures put { directory.new ≡ entry_put E.HEADER E.WIDTH E.print directory.old i value }
     ensures back { Fit E.fits value → E.HEADER + i * E.WIDTH + E.WIDTH ≤ 48 → entry_at E.HEADER E.WIDTH E.parse directory.new i ≡ value }

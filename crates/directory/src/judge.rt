@@ -35,6 +35,7 @@ pub(crate) fn judge_trailer(profile: Profile, trailer: &[u8; 16]) -> Result<(), 
 }
 
 // Reads the application directory of a card: its trailer is judged first, then its seal.
+#[tactic(auto, using(crate::proofs::MadPlaces::mad_on_card, crate::proofs::MadPlaces::mad_few))]
 pub(crate) fn read_mad<C: Card>(card: &mut C, profile: Profile) -> Result<[u8; 48], Refusal>
     ensures { Taken C.Card (mad_look profile) card.old card.new result }
 {

@@ -151,6 +151,7 @@ impl Services {
     }
 
     // The lowest slot that has a block in common with an earlier one. It ends at the first pair: the project fixes this form for comparing slots.
+    #[tactic(auto, using(crate::proofs::Searching::any_past), unfolding(crate::specs::Searches::any_of, crate::specs::Searches::lowest_of))]
     fn first_shared(&self) -> Option<u8>
         ensures { result ≡ lowest_of (shares_earlier self.now.bytes) 11 }
     {

@@ -1,7 +1,8 @@
 -- Ranks and data blocks, each rule from a test at every block. Assumes nothing.
-use Rattle.std.proofs.Common.{◌≡◌, ℕ, ◌+◌, ◌-◌, ◌/◌, ◌<◌, ◌≤◌, Bool, true, false, not, ◌&&◌, ◌||◌, eqb, leb, is_some, Some, None, Option, sym, refl, ap, subst, ⊎_elim, MatchOption}
+use Rattle.std.proofs.Common.{◌≡◌, ℕ, ◌+◌, ◌-◌, ◌/◌, ◌<◌, ◌≤◌, Bool, true, false, not, ◌&&◌, ◌||◌, eqb, leb, is_some, Some, None, Option, sym, refl, ap, subst, ⊎_elim, MatchOption, arith}
 use Rattle.std.specs.Option.{option_map}
 use Rattle.std.proofs.lemmas.Bool.{eqb-true, leb-true, and_parts, not-true, or_cases, both_ways}
+use Rattle.std.proofs.lemmas.Grind.{common_steps}
 use Rattle.std.proofs.lemmas.Option.{slice_get_past}
 use Rattle.layout.specs.Blocks.{rank_of, sector_of, trailer, data_from, data_block, Ranked, to_block}
 use Rattle.layout.specs.declared.numbers.Block.{Block}
@@ -30,9 +31,7 @@ ranked k None = false
 ranked k (Some b) = eqb (rank_of b) k && not (trailer b)
 
 ranked_some : (k b : ℕ) → ranked k (Some b) ≡ true → (rank_of b ≡ k) × (trailer b ≡ false)
-ranked_some k b e =
-    let p = and_parts (eqb (rank_of b) k) (not (trailer b)) e in
-    (eqb-true (rank_of b) k p.0, not-true (trailer b) p.1)
+ranked_some k b e = (grind (arith, common_steps), grind (arith, common_steps))
 
 all_ranked : (k : ℕ) → k < 216 → ranked k (data_block k) ≡ true
 unfolding rank_of data_block
@@ -53,8 +52,11 @@ pub from_block : (b : ℕ) → b < 256 → trailer b ≡ false → Ranked b (ran
 from_block b h e = record {
   plain = e;
   rank = refl;
-  block = ⊎_elim (λ t. absurd (both_ways _ e t)) (holds_some _ b) (or_cases (trailer b) _ (all_back b h));
+  block = holds_some _ b (grind (arith, all_back b h));
 }
+
+pub ranked_here : (b : ℕ) → b < 256 → trailer b ≡ false → Ranked b (b - sector_of b)
+ranked_here b h plain = subst (Ranked b) (sym (rank_is b h)) (from_block b h plain)
 
 -- every rank up to 215 has a block
 pub block_there : (k : ℕ) → k < 216 → is_some (data_block k) ≡ true

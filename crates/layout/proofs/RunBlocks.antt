@@ -1,22 +1,15 @@
 -- The blocks of a run. Assumes nothing.
 use Rattle.std.proofs.Common.{◌≡◌, ℕ, ◌+◌, ◌-◌, ◌<◌, ◌≤◌, Bool, true, false, not, ◌&&◌, ltb, leb, is_some, Some, None, Decides, sym, refl, ap, ◌∙◌, ⊎_elim, add-zero, arith}
+use Rattle.std.proofs.lemmas.Grind.{common_steps}
+use Rattle.std.proofs.lemmas.Bool.Decides.{nat_tests}
 use Rattle.std.proofs.lemmas.Bool.{lt-ltb, le-ltb, cond-true, cond-false, and_from, and_left, and_right, not_from_true, not_from_false, cases_lt, false≢true, and_parts, ltb-true}
 use Rattle.layout.specs.Blocks.{trailer, rank_of, data_block}
 use Rattle.layout.specs.Runs.{run_block, on_card, OnCard, runs_meet, Shared}
 use Rattle.layout.proofs.RankBlocks.{past_block, block_there, rank_le, from_rank, from_block}
 
-module _ (start n i : ℕ) where
-  pub run_block_past : n ≤ i → run_block start n i ≡ None
-  unfolding run_block
-  run_block_past h = cond-false _ _ _ (and_left (ltb i n) (not (trailer start)) (le-ltb i n h))
-
-  pub run_block_trailer : trailer start ≡ true → run_block start n i ≡ None
-  unfolding run_block
-  run_block_trailer t = cond-false _ _ _ (and_right (ltb i n) (not (trailer start)) (not_from_true _ t))
-
-  pub run_block_rank : i < n → trailer start ≡ false → run_block start n i ≡ data_block (rank_of start + i)
-  unfolding run_block
-  run_block_rank h plain = cond-true _ _ _ (and_from (ltb i n) (not (trailer start)) (lt-ltb i n h) (not_from_false _ plain))
+pub run_block_rank : (start n i : ℕ) → i < n → trailer start ≡ false → run_block start n i ≡ data_block (rank_of start + i)
+unfolding run_block
+run_block_rank start n i h plain = grind (arith, common_steps)
 
 module _ (start n : ℕ) (plain : trailer start ≡ false) where
   pub on_card_lem : rank_of start + n ≤ 216 → OnCard start n
@@ -27,31 +20,7 @@ module _ (start n : ℕ) (plain : trailer start ≡ false) where
 
   -- the last block is there, so its rank is at most 215
   pub on_card_within : start < 256 → OnCard start n → rank_of start + n ≤ 216
-  on_card_within h o = ⊎_elim (λ (none : n < 1). omega (arith, rank_le start h)) (λ (some : 1 ≤ n). ⊎_elim (λ (low : rank_of start + (n - 1) < 216). omega arith) (λ (past : 216 ≤ rank_of start + (n - 1)). absurd (false≢true (missing some past))) (cases_lt _ 216)) (cases_lt n 1)
-    where
-      missing : 1 ≤ n → 216 ≤ rank_of start + (n - 1) → false ≡ true
-      missing some past = sym (ap is_some (run_block_rank start n (n - 1) (omega arith) plain ∙ past_block _ past)) ∙ o.each (n - 1) (omega arith)
-
-pub on_card_trailer : (start n : ℕ) → trailer start ≡ true → on_card start n ≡ false
-unfolding on_card
-on_card_trailer start n t = and_left (not (trailer start)) _ (not_from_true _ t)
-
-pub on_card_plain : (start n : ℕ) → trailer start ≡ false → on_card start n ≡ leb (rank_of start + n) 216
-unfolding on_card
-on_card_plain start n plain = ap (λ t. not t && leb (rank_of start + n) 216) plain
-
-module _ (a m b n : ℕ) where
-  pub meet_plain : trailer a ≡ false → trailer b ≡ false → runs_meet a m b n ≡ (ltb (rank_of a) (rank_of b + n) && ltb (rank_of b) (rank_of a + m))
-  unfolding runs_meet
-  meet_plain p q = simp (p, q) refl
-
-  pub meet_left : trailer a ≡ true → runs_meet a m b n ≡ false
-  unfolding runs_meet
-  meet_left p = simp p refl
-
-  pub meet_right : trailer a ≡ false → trailer b ≡ true → runs_meet a m b n ≡ false
-  unfolding runs_meet
-  meet_right p q = simp (p, q) refl
+  on_card_within h o = ⊎_elim (λ none. omega (arith, rank_le start h)) (λ some. grind (arith, o.each (n - 1) (omega arith), run_block_rank, past_block)) (cases_lt n 1)
 
 -- runs on the card have a rank in common exactly if they have a block in common
 module _ (a m b n : ℕ) (ha : a < 256) (hb : b < 256) (ca : OnCard a m) (cb : OnCard b n) (some : 0 < m) (more : 0 < n) where
@@ -70,8 +39,8 @@ module _ (a m b n : ℕ) (ha : a < 256) (hb : b < 256) (ca : OnCard a m) (cb : O
         low = omega arith;
         high = more;
         block = b;
-        first = run_block_rank a m i (omega arith) ca.starts ∙ ap data_block up ∙ (from_block b hb cb.starts).block;
-        second = run_block_rank b n 0 more cb.starts ∙ ap data_block (add-zero (rank_of b)) ∙ (from_block b hb cb.starts).block;
+        first = grind (arith, run_block_rank, (from_block b hb cb.starts).block, ca.starts);
+        second = grind (arith, run_block_rank, (from_block b hb cb.starts).block, cb.starts);
       })
       (λ (high : rank_of b ≤ rank_of a).
       let j = rank_of a - rank_of b in
@@ -82,29 +51,21 @@ module _ (a m b n : ℕ) (ha : a < 256) (hb : b < 256) (ca : OnCard a m) (cb : O
         low = some;
         high = omega arith;
         block = a;
-        first = run_block_rank a m 0 some ca.starts ∙ ap data_block (add-zero (rank_of a)) ∙ (from_block a ha ca.starts).block;
-        second = run_block_rank b n j (omega arith) cb.starts ∙ ap data_block up ∙ (from_block a ha ca.starts).block;
+        first = grind (arith, run_block_rank, (from_block a ha ca.starts).block, ca.starts);
+        second = grind (arith, run_block_rank, (from_block a ha ca.starts).block, cb.starts);
       })
       (cases_lt (rank_of a) (rank_of b))
 
   shared_level : (s : Shared a m b n) → rank_of a + s.i ≡ rank_of b + s.j
   shared_level s =
-      let la = s.low in
-      let lb = s.high in
       let wa = on_card_within a m ca.starts ha ca in
       let wb = on_card_within b n cb.starts hb cb in
-      let fa = ranked (rank_of a + s.i) s.block (omega arith) (sym (run_block_rank a m s.i la ca.starts) ∙ s.first) in
-      let fb = ranked (rank_of b + s.j) s.block (omega arith) (sym (run_block_rank b n s.j lb cb.starts) ∙ s.second) in
+      let fa = ranked (rank_of a + s.i) s.block (omega arith) (sym (run_block_rank a m s.i s.low ca.starts) ∙ s.first) in
+      let fb = ranked (rank_of b + s.j) s.block (omega arith) (sym (run_block_rank b n s.j s.high cb.starts) ∙ s.second) in
       sym fa ∙ fb
 
   pub meet_decides : (r : Bool) → r ≡ (ltb (rank_of a) (rank_of b + n) && ltb (rank_of b) (rank_of a + m)) → Decides r (Shared a m b n)
   meet_decides r e = (
-    λ t.
-        let p = and_parts _ _ (sym e ∙ t) in
-        meet_shared (ltb-true _ _ p.0) (ltb-true _ _ p.1),
-    λ s.
-        let level = shared_level s in
-        let la = s.low in
-        let lb = s.high in
-        e ∙ and_from _ _ (lt-ltb (rank_of a) (rank_of b + n) (omega arith)) (lt-ltb (rank_of b) (rank_of a + m) (omega arith)),
+    λ t. meet_shared (grind (arith, nat_tests)) (grind (arith, nat_tests)),
+    λ s. let level = shared_level s in grind (arith, nat_tests),
   )

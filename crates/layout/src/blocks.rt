@@ -27,6 +27,7 @@ impl Block {
     }
 
     // How many data blocks lie below the block; none for a trailer.
+    #[tactic(auto, using(crate::proofs::RankBlocks::ranked_here))]
     pub fn rank(self) -> Option<Rank>
         ensures { MatchOption result (trailer self.0 ≡ true) (λ k. Ranked self.0 k.0) }
     {

@@ -26,6 +26,7 @@ pub struct Figures {
 }
 
 // The known figures, computed.
+#[tactic(auto, using(crate::proofs::KnownFigures::known))]
 pub fn known_figures() -> Figures
     ensures answers { result ≡ answered }
     ensures known { Known }

@@ -18,6 +18,7 @@ const DATA_BLOCKS: u16 = 216;
 
 impl Run {
     // Block `i` of the run, counted from 0; none past its length or past the last rank, or if it starts at a trailer.
+    #[tactic(auto, using(crate::proofs::RankBlocks::past_block, crate::proofs::RankBlocks::ranked_block), unfolding(crate::specs::Runs::run_block))]
     pub fn block(self, i: u8) -> Option<Block>
         ensures { result ≡ option_map to_block (run_block self.start.0 self.length i) }
     {
@@ -30,6 +31,7 @@ impl Run {
     }
 
     // Whether the run starts at a data block and stays within the last rank.
+    #[tactic(auto, unfolding(crate::specs::Runs::on_card))]
     pub fn is_on_card(self) -> bool
         ensures value { result ≡ on_card self.start.0 self.length }
         ensures each { Decides result (OnCard self.start.0 self.length) }
@@ -42,6 +44,7 @@ impl Run {
     }
 
     // Whether the two runs have a rank in common; of runs on the card that are not empty, whether they have a block in common.
+    #[tactic(auto, unfolding(crate::specs::Runs::runs_meet))]
     pub fn meets(self, other: Run) -> bool
         ensures value { result ≡ runs_meet self.start.0 self.length other.start.0 other.length }
         ensures shared { OnCard self.start.0 self.length → OnCard other.start.0 other.length → 0 < self.length → 0 < other.length → Decides result (Shared self.start.0 self.length other.start.0 other.length) }

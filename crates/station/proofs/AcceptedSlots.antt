@@ -32,27 +32,12 @@ slots_judged_lem p blocks d e =
     let is : whole ≡ d = let k = last.2 in cc in
     subst (λ k. slots_judged k ≡ Ok tt) is last.1
 
-none_first : (o q : Option ℕ) → ◌≡◌ (first_slot_judged (lower o q)) (Ok tt) → o ≡ None
-none_first None q e = refl
-none_first (Some a) None e = let z : ◌≡◌ {A = ℕ} 0 1 = cc in absurd (omega arith)
-none_first (Some a) (Some b) e = let z : ◌≡◌ {A = ℕ} 0 1 = cc in absurd (omega arith)
-
 none_wrong : (d : Directory) → slots_judged d ≡ Ok tt → lowest_of (wrong_slot d) 11 ≡ None
-none_wrong d e = by_header (header_clear d.services.bytes) e
-  where
-    by_header : (clear : Bool) → ◌≡◌ (cond clear (first_slot_judged (lower (lowest_of (wrong_slot d) 11) (lowest_of (shares_earlier d.services.bytes) 11))) (refuse ServicesSlot 0)) (Ok tt) → lowest_of (wrong_slot d) 11 ≡ None
-    by_header true e = none_first _ _ e
-    by_header false e = let z : ◌≡◌ {A = ℕ} 0 1 = cc in absurd (omega arith)
+none_wrong d e = grind arith
 
 slot_on_card : (d : Directory) (i : ℕ) (s : Slot) → wrong_slot d i ≡ false → slot_at d.services.bytes i ≡ Some s → on_card s.run.start.0 s.run.length ≡ true
 unfolding wrong_slot slot_wrong
-slot_on_card d i s right is =
-    let start = s.run.start.0 in
-    let n = s.run.length in
-    let outside = any_of (λ k. no_service d (run_block start n k)) n in
-    let alone : slot_wrong d s ≡ false = (or_parts (slot_wrong d s) (any_of (λ j. number_is s.number (slot_at d.services.bytes j)) i) (ap (wrong_slot_as d i) (sym is) ∙ right)).0 in
-    let first = (or_parts (eqb s.number 0 || eqb n 0 || not (on_card start n)) outside alone).0 in
-    not-false _ (or_parts (eqb s.number 0 || eqb n 0) (not (on_card start n)) first).1
+slot_on_card d i s right is = grind (arith, ap (wrong_slot_as d i) (sym is))
 
 -- a service that was found on an accepted card
 pub found_on_card : (p : Profile) (blocks : Blocks) (d : Directory) (number : ℕ) (f : Found) → verdict p blocks ≡ Ok d → found_in d number ≡ Ok f → on_card f.run.start.0 f.run.length ≡ true
@@ -60,11 +45,9 @@ unfolding found_in
 found_on_card p blocks d number f e found = by_place (lowest_of (λ i. number_is number (slot_at d.services.bytes i)) 11) refl found
   where
     by_slot : (i : ℕ) (o : Option Slot) → i < 11 → slot_at d.services.bytes i ≡ o → slot_found i o ≡ Ok f → on_card f.run.start.0 f.run.length ≡ true
-    by_slot i None h is found = let z : ◌≡◌ {A = ℕ} 0 1 = cc in absurd (omega arith)
-    by_slot i (Some s) h is found =
-        let same : s.run ≡ f.run = cc in
-        subst (λ r. on_card r.start.0 r.length ≡ true) same (slot_on_card d i s (lowest_all (wrong_slot d) 11 (none_wrong d (slots_judged_lem p blocks d e)) i h) is)
+    by_slot i None h is found = grind arith
+    by_slot i (Some s) h is found = grind (arith, slot_on_card d i s (lowest_all (wrong_slot d) 11 (none_wrong d (slots_judged_lem p blocks d e)) i h) is)
 
     by_place : (o : Option ℕ) → lowest_of (λ i. number_is number (slot_at d.services.bytes i)) 11 ≡ o → found_at d o ≡ Ok f → on_card f.run.start.0 f.run.length ≡ true
-    by_place None is found = let z : ◌≡◌ {A = ℕ} 0 1 = cc in absurd (omega arith)
+    by_place None is found = grind arith
     by_place (Some i) is found = by_slot i (slot_at d.services.bytes i) (lowest_some _ 11 i is).0 refl found

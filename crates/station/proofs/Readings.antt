@@ -1,7 +1,9 @@
 -- Reading a service, step after step. Assumes nothing.
-use Rattle.std.proofs.Common.{◌≡◌, ℕ, ◌+◌, ◌*◌, ◌<◌, ◌≤◌, Bool, true, false, cond, leb, List, [], ◌∷◌, ◌++◌, length, take, drop, Some, None, Ok, Err, Option, sym, refl, ap, ◌∙◌, ⊎_elim, append-nil, suc-add, zero-add, arith, length-take}
+use Rattle.std.proofs.Common.{◌≡◌, ℕ, ◌+◌, ◌*◌, ◌<◌, ◌≤◌, Bool, true, false, cond, leb, List, [], ◌∷◌, ◌++◌, length, take, drop, Some, None, Ok, Err, Option, sym, refl, ap, ◌∙◌, subst, ⊎_elim, append-nil, suc-add, zero-add, arith, length-take}
+use Rattle.std.proofs.Math.Seq.{take-append-add, drop-append_seam}
+use Rattle.std.proofs.lemmas.Grind.{common_steps}
 use Rattle.std.proofs.lemmas.List.{drop_all, drop_at, take_at, take_all}
-use Rattle.std.proofs.lemmas.Option.{slice_get_past}
+use Rattle.std.proofs.lemmas.Option.{slice_get_within}
 use Rattle.std.proofs.lemmas.Bool.{cases_lt, leb-true}
 use Rattle.std.specs.List.{slice_get}
 use Rattle.layout.specs.Buffers.{overlaid}
@@ -13,28 +15,21 @@ use Rattle.card.specs.Blocks.{Blocks}
 use Rattle.card.specs.declared.interface.Card.{Ghosts as CardKind}
 use Rattle.directory.specs.Checks.{check_look, reads, verdict}
 use Rattle.directory.specs.Looks.{Look, judged, then_look, touches_after, lost_at, unless_lost, Taken}
-use Rattle.directory.specs.Reads.{touch_look, joined, Filled}
+use Rattle.directory.specs.Reads.{run_reads, touch_look, joined, Filled}
 use Rattle.directory.specs.declared.accepted.Directory.{Directory}
 use Rattle.directory.proofs.Filling.{length_joined, filled_whole}
 use Rattle.directory.proofs.Looking.{taken_none, taken_judge, taken_stop, taken_then, stay_judge, stay_stop, stay_then}
 use Rattle.directory.proofs.RunTouches.{length_touches}
+use Rattle.directory.proofs.SealedReads.{whole_run}
 use Rattle.station.specs.Finds.{readable, found_in}
 use Rattle.station.specs.Reads.{room_judged, reading_in, touches_of, run_look, room_for, after_check, read_look, run_read, ReadDone}
 use Rattle.station.specs.declared.frame.Reading.{Reading}
 use Rattle.station.specs.declared.search.Found.{Found}
+use Rattle.station.proofs.AcceptedSlots.{found_on_card}
 
 -- a service that was found, and a buffer that is long enough for it
 pub room_ok : (d : Directory) (number room : ℕ) (f : Found) → found_in d number ≡ Ok f → room_judged f.run.length room ≡ Ok tt → (room_for d number room ≡ Ok f) × (16 * f.run.length ≤ room)
-room_ok d number room f found enough =
-    (ap (λ a. then a (λ x. then (room_judged x.run.length room) (λ _. Ok x))) found ∙ ap (λ a. then a (λ _. Ok f)) enough, leb-true _ _ (by_test (leb (16 * f.run.length) room) enough))
-  where
-    by_test : (b : Bool) → ◌≡◌ {A = Answer (Unit {0})} (cond b (Ok tt) (refuse BufferLength (16 * f.run.length))) (Ok tt) → b ≡ true
-    by_test true e = refl
-    by_test false e = let z : ◌≡◌ {A = ℕ} 0 1 = cc in absurd (omega arith)
-
--- a place that holds something lies inside
-nth_inside : (xs : List ℕ) (i b : ℕ) → slice_get xs i ≡ Some b → i < length xs
-nth_inside xs i b e = ⊎_elim (λ low. low) (λ past. let none = slice_get_past xs i past in let z : ◌≡◌ {A = ℕ} 0 1 = cc in absurd (omega arith)) (cases_lt i (length xs))
+room_ok d number room f found enough = (grind (arith, found, enough), grind (arith, common_steps, enough))
 
 module _ {C : Type 0} (kind : CardKind C) (p : Profile) (number : ℕ) (card : C) (before : List ℕ) where
   open kind use {blocks}
@@ -84,9 +79,9 @@ module _ {C : Type 0} (kind : CardKind C) (p : Profile) (number : ℕ) (card : C
         by_lost : (lost : Option ℕ) → lost_at (check_look p (blocks card)) w.looked.stay ≡ lost → (v : Taken kind (λ b. then_look (check_look p b) (after_check number (length before) b)) card later (Err e))
             → (behind_number v).looked.stay ≡ w.looked.stay
             → before ≡ overlaid (joined (blocks card) (run_read p number (length before) (blocks card) (behind_number v).looked.stay)) before
-        by_lost (Some b) lost v level = few_stay _ (omega (arith, nth_inside (reads p (blocks card)) w.looked.stay b lost))
+        by_lost (Some b) lost v level = few_stay _ (omega (arith, slice_get_within (reads p (blocks card)) w.looked.stay b lost))
         by_lost None kept v level =
-            let refused : verdict p (blocks card) ≡ Err e = sym (w.looked.answer ∙ ap (λ o. unless_lost o (verdict p (blocks card))) kept) ∙ is in
+            let refused : verdict p (blocks card) ≡ Err e = grind (arith, w.looked.answer, kept, is) in
             few_touches _ (omega (
               arith,
               ap length (asked_after ∙ ap (λ a. reads p (blocks card) ++ touches_after a (after_check number (length before) (blocks card))) refused ∙ append-nil (reads p (blocks card))),
@@ -95,11 +90,7 @@ module _ {C : Type 0} (kind : CardKind C) (p : Profile) (number : ℕ) (card : C
     module _ (later : C) (d : Directory) (w : Taken kind (check_look p) card later (Ok d)) where
       -- a check that was not refused lost no read
       pub kept : verdict p (blocks card) ≡ Ok d
-      kept = by_lost (lost_at (check_look p (blocks card)) w.looked.stay) w.looked.answer
-        where
-          by_lost : (lost : Option ℕ) → Ok d ≡ unless_lost lost (verdict p (blocks card)) → verdict p (blocks card) ≡ Ok d
-          by_lost (Some b) e = let z : ◌≡◌ {A = ℕ} 0 1 = cc in absurd (omega arith)
-          by_lost None e = sym e
+      kept = grind (arith, w.looked.answer)
 
       asked_run : (read_look p number (length before) (blocks card)).touches ≡ reads p (blocks card) ++ touches_after (room_for d number (length before)) (run_look (blocks card))
       asked_run = asked_after ∙ ap (λ a. reads p (blocks card) ++ touches_after a (after_check number (length before) (blocks card))) kept
@@ -122,7 +113,16 @@ module _ {C : Type 0} (kind : CardKind C) (p : Profile) (number : ℕ) (card : C
             buffer = few_touches _ (omega (arith, ap length (asked_run ∙ ap (λ a. reads p (blocks card) ++ touches_after a (run_look (blocks card))) is ∙ append-nil (reads p (blocks card)))));
           }
 
-      module _ (f : Found) (room : room_for d number (length before) ≡ Ok f) where
+      module _ (f : Found) (found : found_in d number ≡ Ok f) (enough : room_judged f.run.length (length before) ≡ Ok tt) where
+        room : room_for d number (length before) ≡ Ok f
+        room = (room_ok d number (length before) f found enough).0
+
+        -- the run lies on the card and fits into the buffer, so all of it is to be read
+        filled_run : (last : C) (after : List ℕ) (r : Answer (Unit {0})) → Filled kind (run_reads f.run.start.0 f.run.length (length before)) later last before after r → Filled kind (touches_of f) later last before after r
+        filled_run last after r =
+            subst (λ t. Filled kind t later last before after r)
+            (whole_run f.run.start.0 f.run.length (length before) (found_on_card p (blocks card) d number f kept found) (room_ok d number (length before) f found enough).1)
+
         behind_found : {last : C} {s : Answer Reading} → Taken kind (λ b. run_look b f) later last s → Taken kind (λ b. after_check number (length before) b d) later last s
         behind_found v = taken_then kind (λ _. judged (room_for d number (length before))) (λ b. run_look b) f (taken_none kind (room_for d number (length before)) later) room v
 
@@ -140,11 +140,7 @@ module _ {C : Type 0} (kind : CardKind C) (p : Profile) (number : ℕ) (card : C
             let rs = reads p (blocks card) in
             let all : (read_look p number (length before) (blocks card)).touches ≡ rs ++ touches_of f =
             asked_run ∙ ap (λ a. rs ++ touches_after a (run_look (blocks card))) room ∙ ap (λ t. rs ++ t) (append-nil (touches_of f)) in
-            (λ i. drop (length rs) (take (level i) (all i))) ∙ ap (drop (length rs)) (take_past rs (touches_of f) s) ∙ drop_at rs (take s (touches_of f)) (length rs) refl
-          where
-            take_past : (xs ys : List ℕ) (n : ℕ) → take (length xs + n) (xs ++ ys) ≡ xs ++ take n ys
-            take_past [] ys n = ap (λ k. take k ys) (zero-add n)
-            take_past (x ∷ xs) ys n = ap (λ k. take k (x ∷ (xs ++ ys))) (suc-add (length xs) n) ∙ ap (λ r. x ∷ r) (take_past xs ys n)
+            (λ i. drop (length rs) (take (level i) (all i))) ∙ ap (drop (length rs)) (take-append-add rs (touches_of f) s) ∙ drop-append_seam rs (take s (touches_of f))
 
         -- the run was read up to the last of some blocks
         front_is : (last : C) (after : List ℕ) (s stay : ℕ) → stay ≡ length (reads p (blocks card)) + s → after ≡ overlaid (joined (blocks later) (take s (touches_of f))) before
@@ -153,8 +149,9 @@ module _ {C : Type 0} (kind : CardKind C) (p : Profile) (number : ℕ) (card : C
             front ∙ (λ i. overlaid (joined (w.looked.same i) (take s (touches_of f))) before) ∙ ap (λ t. overlaid (joined (blocks card) t) before) (sym (run_read_lem stay s level))
 
         -- the card went while the run was read
-        pub run_gone : (last : C) (after : List ℕ) (e : Refusal) → Filled kind (touches_of f) later last before after (Err e) → ReadDone kind p number card last before after (Err e)
-        run_gone last after e filled =
+        pub run_gone : (last : C) (after : List ℕ) (e : Refusal) → Filled kind (run_reads f.run.start.0 f.run.length (length before)) later last before after (Err e) → ReadDone kind p number card last before after (Err e)
+        run_gone last after e read =
+            let filled = filled_run last after (Err e) read in
             let judgement : Blocks → Unit {0} → Look Reading = λ b _. judged (reading_in (joined b (touches_of f))) in
             let v = taken_stop kind (touch_look (touches_of f)) judgement e filled.taken refl in
             record {
@@ -165,13 +162,14 @@ module _ {C : Type 0} (kind : CardKind C) (p : Profile) (number : ℕ) (card : C
             }
 
         -- the run was read, and the frame in it judged
-        pub run_done : (last : C) (after : List ℕ) (s : Answer Reading) → Filled kind (touches_of f) later last before after (Ok tt) → s ≡ reading_in (take (16 * f.run.length) after)
+        pub run_done : (last : C) (after : List ℕ) (s : Answer Reading) → Filled kind (run_reads f.run.start.0 f.run.length (length before)) later last before after (Ok tt) → s ≡ reading_in (take (16 * f.run.length) after)
             → ReadDone kind p number card last before after s
-        run_done last after s filled is =
+        run_done last after s read is =
+            let filled = filled_run last after (Ok tt) read in
             let touches = touches_of f in
             let bytes = joined (blocks later) touches in
             let whole = filled_whole kind touches later last before after filled in
-            let long : length bytes ≡ 16 * f.run.length = length_joined kind later touches ∙ ap (λ n. 16 * n) (length_touches f.run.start.0 f.run.length) in
+            let long : length bytes ≡ 16 * f.run.length = grind (arith, length_joined, length_touches) in
             let front : take (16 * f.run.length) after ≡ bytes = ap (take (16 * f.run.length)) whole ∙ take_at bytes (drop (length bytes) before) (16 * f.run.length) long in
             let judgement : Blocks → Unit {0} → Answer Reading = λ b _. reading_in (joined b touches) in
             let e : s ≡ reading_in bytes = is ∙ ap reading_in front in

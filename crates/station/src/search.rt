@@ -16,7 +16,7 @@ pub struct Found {
 }
 
 // The first slot with this number; refused if there is none.
-#[tactic(auto, unfolding(crate::specs::Finds::found_in))]
+#[tactic(auto, using(directory::proofs::Searching::lowest_some), unfolding(crate::specs::Finds::found_in))]
 pub(crate) fn find_slot(directory: &Directory, number: u16) -> Result<Found, Refusal>
     ensures { result ≡ found_in directory.now number }
 {

@@ -1,14 +1,20 @@
-use Rattle.std.proofs.Common.{◌≡◌, true, Some, sym, ◌∙◌, subst, arith, lit≤}
-use Rattle.std.proofs.lemmas.Bool.{cond-true, lt-ltb}
+use Rattle.std.proofs.Common.{◌≡◌, Err, sym, refl, rules, arith, subst}
 use Rattle.layout.specs.Blocks.{first_of, to_block}
-use Rattle.layout.specs.Runs.{on_card}
+use Rattle.layout.specs.declared.refusals.Reason.TheVariants.{NscpChecksum}
+use Rattle.directory.specs.Checks.{nscp_accepted, nscp_look_at}
+use Rattle.directory.specs.Judged.{sealed_look}
+use Rattle.directory.specs.Looks.{judged, Taken}
+use Rattle.directory.specs.Nscp.{nscp_sector_judged}
 use Rattle.directory.proofs.DirectoryPlaces.{nscp_on_card}
+use Rattle.directory.proofs.Looking.{taken_none, taken_stop, taken_then}
 use Rattle.directory.proofs.check.read_nscp.Goals as goal
 
-pub read_sealed-requires : goal.read_sealed-requires
-read_sealed-requires g c =
+pub returns-in_err-bytes-clause-look : goal.returns-in_err-bytes-clause-look
+returns-in_err-bytes-clause-look g c =
+    let k = g.C.Card in
+    let p = c.args.applications.now.profile in
+    let mad = c.args.applications.now.bytes in
     let s = c.in_ok-sector.sector in
-    let place = nscp_on_card c.args.applications.now.profile c.args.applications.now.bytes s (sym c.in_ok-sector.ensures) in
-    let there = cond-true _ (Some (to_block (first_of s.0))) _ (lt-ltb s.0 40 (omega (arith, place.0))) in
-    let first : to_block (first_of s.0) ≡ c.unwrap.result = let e = sym c.unwrap.ensures ∙ c.first.ensures ∙ there in cc in
-    record { run = subst (λ b. on_card b.0 3 ≡ true) first place.1; few = lit≤ tt }
+    let first : c.unwrap.result ≡ to_block (first_of s.0) = grind (arith, nscp_on_card p mad s (sym c.in_ok-sector.ensures)) in
+    let last = taken_stop k (sealed_look NscpChecksum (first_of s.0) 3) (λ _ bytes. judged (nscp_accepted s bytes)) _ (rw first at c.in_err-bytes.ensures) refl in
+    search (rules, taken_then k (λ _. judged (nscp_sector_judged p mad)) nscp_look_at s (taken_none k (nscp_sector_judged p mad) c.args.card.now) (sym c.in_ok-sector.ensures) last)

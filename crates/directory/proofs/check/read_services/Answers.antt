@@ -1,31 +1,12 @@
-use Rattle.std.proofs.Common.{Ok, sym, refl, ap, lit≤}
-use Rattle.std.proofs.lemmas.Result.{err_from_is_err_and}
+use Rattle.std.proofs.Common.{Ok, sym, refl, ap, rules}
 use Rattle.layout.specs.Refusals.{then}
 use Rattle.layout.specs.declared.refusals.Reason.TheVariants.{ServicesChecksum}
 use Rattle.directory.specs.Checks.{together, accepted, services_look_at}
 use Rattle.directory.specs.Judged.{sealed_look}
 use Rattle.directory.specs.Looks.{judged}
 use Rattle.directory.specs.Services.{services_judged}
-use Rattle.directory.proofs.DirectoryPlaces.{services_on_card}
 use Rattle.directory.proofs.Looking.{taken_none, taken_judge, taken_stop, taken_then}
 use Rattle.directory.proofs.check.read_services.Goals as goal
-
-pub returns-in_err-block : goal.returns-in_err-block
-returns-in_err-block g c =
-    let k = g.C.Card in
-    let p = c.args.applications.profile in
-    let mad = c.args.applications.bytes in
-    let nscp = c.args.nscp in
-    let place = services_judged p mad nscp.sector.0 nscp.bytes in
-    let e = err_from_is_err_and c.from_residual.result c.from_residual.ensures.1 in
-    rw (e.1, e.2)
-    (taken_stop k (λ _. judged place) (services_look_at p mad nscp) _ (taken_none k place c.args.card.now) (sym c.in_err-block.ensures))
-
-pub read_sealed-requires : goal.read_sealed-requires
-read_sealed-requires g c = record {
-  run = services_on_card c.args.applications.profile c.args.applications.bytes c.args.nscp.sector.0 c.args.nscp.bytes c.in_ok-block.block c.requires.items (sym c.in_ok-block.ensures);
-  few = lit≤ tt;
-}
 
 pub returns-in_err-bytes : goal.returns-in_err-bytes
 returns-in_err-bytes g c =
@@ -35,10 +16,8 @@ returns-in_err-bytes g c =
     let nscp = c.args.nscp in
     let at = c.in_ok-block.block in
     let place = services_judged p mad nscp.sector.0 nscp.bytes in
-    let e = err_from_is_err_and c.from_residual-in_err-bytes.result c.from_residual-in_err-bytes.ensures.1 in
     let last = taken_stop k (sealed_look ServicesChecksum at.0 3) (λ _ s. judged (accepted (together p mad nscp at s))) _ c.in_err-bytes.ensures refl in
-    rw (e.1, e.2)
-    (taken_then k (λ _. judged place) (services_look_at p mad nscp) at (taken_none k place c.args.card.now) (sym c.in_ok-block.ensures) last)
+    search (rules, taken_then k (λ _. judged place) (services_look_at p mad nscp) at (taken_none k place c.args.card.now) (sym c.in_ok-block.ensures) last)
 
 pub returns-in_err-judge_slots : goal.returns-in_err-judge_slots
 returns-in_err-judge_slots g c =
@@ -50,8 +29,6 @@ returns-in_err-judge_slots g c =
     let services = c.in_ok-bytes.bytes in
     let d = together p mad nscp at services in
     let place = services_judged p mad nscp.sector.0 nscp.bytes in
-    let e = err_from_is_err_and c.from_residual-in_err-judge_slots.result c.from_residual-in_err-judge_slots.ensures.1 in
     let last = taken_judge k (sealed_look ServicesChecksum at.0 3) (λ _ s. accepted (together p mad nscp at s)) services
     c.in_ok-bytes.ensures refl (ap (λ a. then a (λ _. Ok d)) c.in_err-judge_slots.ensures) in
-    rw (e.1, e.2)
-    (taken_then k (λ _. judged place) (services_look_at p mad nscp) at (taken_none k place c.args.card.now) (sym c.in_ok-block.ensures) last)
+    search (rules, taken_then k (λ _. judged place) (services_look_at p mad nscp) at (taken_none k place c.args.card.now) (sym c.in_ok-block.ensures) last)

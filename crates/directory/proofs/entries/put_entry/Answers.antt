@@ -1,7 +1,7 @@
-use Rattle.std.proofs.Common.{◌≡◌, ◌+◌, ◌-◌, ◌*◌, ◌<◌, ◌≤◌, length, sym, refl, ap, ◌∙◌, subst, arith, rules}
+use Rattle.std.proofs.Common.{◌≡◌, ◌+◌, ◌-◌, ◌*◌, ◌≤◌, length, ap, ◌∙◌, rules}
 use borrow.Rule.Slice.PartMut.{put_mid}
 use Rattle.directory.specs.Entries.{entry_at, entry_put}
-use Rattle.directory.proofs.WrittenEntries.{put_past, put_part, read_back, others_same}
+use Rattle.directory.proofs.WrittenEntries.{put_part, read_back, others_same}
 use Rattle.directory.proofs.entries.put_entry.Goals as goal
 
 pub returns-then-start-width-le48 : goal.returns-then-start-width-le48
@@ -15,34 +15,12 @@ returns-then-start-width-le48 g c =
     let j = c.from.result in
     let part = c.fill_place.new.place in
     let full : length d ≡ 48 = search rules in
-    let here : k.HEADER + i * k.WIDTH + k.WIDTH ≤ 48 =
-    subst (λ x. k.HEADER + x * k.WIDTH + k.WIDTH ≤ 48) c.from.ensures
-    (subst (λ x. k.HEADER + j * x + x ≤ 48) c.WIDTH-width.ensures (subst (λ x. x + j * w + w ≤ 48) c.HEADER.ensures c.if-start-width-le48.true)) in
+    let here : k.HEADER + i * k.WIDTH + k.WIDTH ≤ 48 = simp (c.HEADER.ensures, c.WIDTH-width.ensures, c.from.ensures) at c.if-start-width-le48.true in
     let put : put_mid (h + j * w) (h + j * w + w - (h + j * w)) d part ≡ entry_put k.HEADER k.WIDTH k.print d i c.args.value =
-    ap (λ x. put_mid (x + j * w) (x + j * w + w - (x + j * w)) d part) c.HEADER.ensures
-    ∙ ap (λ x. put_mid (k.HEADER + j * x) (k.HEADER + j * x + x - (k.HEADER + j * x)) d part) c.WIDTH-width.ensures
-    ∙ ap (λ x. put_mid (k.HEADER + x * k.WIDTH) (k.HEADER + x * k.WIDTH + k.WIDTH - (k.HEADER + x * k.WIDTH)) d part) c.from.ensures
-    ∙ put_part k.HEADER k.WIDTH k.parse k.print k.fits law.whole law.used law.back d full i c.args.value part c.fill_place.ensures here in
+    simp (c.HEADER.ensures, c.WIDTH-width.ensures, c.from.ensures)
+    (put_part k.HEADER k.WIDTH k.parse k.print k.fits law.whole law.used law.back d full i c.args.value part c.fill_place.ensures here) in
     record {
       put = put;
       back = λ fit within. ap (λ x. entry_at k.HEADER k.WIDTH k.parse x i) put ∙ read_back k.HEADER k.WIDTH k.parse k.print k.fits law.whole law.used law.back d full i c.args.value fit within;
       others = λ j ne. ap (λ x. entry_at k.HEADER k.WIDTH k.parse x j) put ∙ others_same k.HEADER k.WIDTH k.parse k.print k.fits law.whole law.used law.back d full i c.args.value j ne;
-    }
-
-pub returns-else-start-width-le48 : goal.returns-else-start-width-le48
-returns-else-start-width-le48 g c =
-    let k = g.E.Entry in
-    let law = g.met.E.Entry in
-    let d = c.args.directory.now in
-    let i = c.args.i in
-    let w = c.WIDTH-width.result in
-    let j = c.from.result in
-    let full : length d ≡ 48 = search rules in
-    let past : 48 < k.HEADER + i * k.WIDTH + k.WIDTH =
-    subst (λ x. 48 < k.HEADER + x * k.WIDTH + k.WIDTH) c.from.ensures
-    (subst (λ x. 48 < k.HEADER + j * x + x) c.WIDTH-width.ensures (subst (λ x. 48 < x + j * w + w) c.HEADER.ensures c.if-start-width-le48.false)) in
-    record {
-      put = sym (put_past k.HEADER k.WIDTH k.parse k.print k.fits law.whole law.used law.back d full i c.args.value past);
-      back = λ fit within. absurd (omega arith);
-      others = λ j ne. refl;
     }

@@ -11,9 +11,6 @@ loop-i-init c = (
   added_fits _ _ c.requires.register c.args.state c.args.byte _ c.requires.state (omega arith) c.from.ensures,
 )
 
-pub overflow_mul-register-else-register-top : goal.overflow_mul-register-else-register-top
-overflow_mul-register-else-register-top c = record { fits = doubled_fits _ _ c.requires.register c.loop-i.register c.loop-i.invariant.1 }
-
 pub loop-i-preserved : goal.loop-i-preserved
 loop-i-preserved c =
     let w = c.args.width in
