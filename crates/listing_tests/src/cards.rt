@@ -2,6 +2,7 @@
 use directory::seal_directory;
 use layout::{Image, Refusal};
 use std::ops::Range;
+use std::test::Fail;
 
 // The data of the sample's service: one object, tag 5F20, format byte 01, data AB.
 pub(crate) const DATA: [u8; 12] = [
@@ -89,4 +90,17 @@ pub(crate) fn refused<T: Drop>(answer: Result<T, Refusal>) -> Option<(u8, usize)
     answer
         .err()
         .map(|refusal| (refusal.number(), refusal.place))
+}
+
+// Fails with these words unless two values are the same. The tests of another crate have a helper like it and like `refused`: two crates' tests share no module.
+pub(crate) fn check_eq<T: PartialEq + Drop>(
+    found: T,
+    expected: T,
+    words: &str,
+) -> Result<(), Fail> {
+    if found == expected {
+        Ok(())
+    } else {
+        Err(Fail::new(words))
+    }
 }

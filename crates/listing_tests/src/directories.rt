@@ -1,9 +1,9 @@
 // Each way in which the directories of a card are refused, tried on both listings.
-use crate::cards::{Edits, altered, broken, refused, sample_d};
+use crate::cards::{Edits, altered, broken, check_eq, refused, sample_d};
 use card::{Plan, TearCard, Torn};
 use directory::{Directory, check_card};
 use layout::{Image, Profile, Refusal};
-use std::process::Abort;
+use std::test::Fail;
 
 // A listing that is tried: its sample card, and how it judges a card under a profile letter.
 pub(crate) trait Tried {
@@ -12,7 +12,7 @@ pub(crate) trait Tried {
     fn judge(letter: &str, image: &Image) -> Result<Directory, Refusal>;
 }
 
-pub(crate) fn check_applications<T: Tried>(rt: &impl Abort) {
+pub(crate) fn check_applications<T: Tried>() -> Result<(), Fail> {
     let card = T::sample();
     let cases = [
         ("A", altered(card, &[]), None, "accepted"),
@@ -35,8 +35,9 @@ pub(crate) fn check_applications<T: Tried>(rt: &impl Abort) {
         ),
     ];
     for (letter, image, refusal, words) in cases {
-        assert_eq!(rt; refused(T::judge(letter, &image)), refusal, "{words}");
+        check_eq(refused(T::judge(letter, &image)), refusal, words)?;
     }
+    Ok(())
 }
 
 // Changes to the sample card, what they make wrong in the NSCP directory, and the number and place of the refusal.
@@ -55,14 +56,15 @@ const NSCP: [(Edits, &str, (u8, usize)); 12] = [
     (&[(68, 0xC0), (69, 9)], "another item there", (8, 8)),
 ];
 
-pub(crate) fn check_nscp<T: Tried>(rt: &impl Abort) {
+pub(crate) fn check_nscp<T: Tried>() -> Result<(), Fail> {
     let card = T::sample();
     let unsealed = broken(card, &[(111, 1)]);
-    assert_eq!(rt; refused(T::judge("A", &unsealed)), Some((6, 4)), "checksum");
+    check_eq(refused(T::judge("A", &unsealed)), Some((6, 4)), "checksum")?;
     for (edits, wrong, refusal) in NSCP {
         let image = altered(card, edits);
-        assert_eq!(rt; refused(T::judge("A", &image)), Some(refusal), "{wrong}");
+        check_eq(refused(T::judge("A", &image)), Some(refusal), wrong)?;
     }
+    Ok(())
 }
 
 // The same in the services directory.
@@ -90,20 +92,20 @@ const SLOTS: [(Edits, &str, (u8, usize)); 9] = [
     ),
 ];
 
-pub(crate) fn check_services<T: Tried>(rt: &impl Abort) {
+pub(crate) fn check_services<T: Tried>() -> Result<(), Fail> {
     let card = T::sample();
     let unsealed = broken(card, &[(175, 1)]);
-    assert_eq!(rt; refused(T::judge("A", &unsealed)), Some((9, 8)), "checksum");
+    check_eq(refused(T::judge("A", &unsealed)), Some((9, 8)), "checksum")?;
     for (edits, wrong, refusal) in SLOTS {
         let image = altered(card, edits);
-        assert_eq!(rt; refused(T::judge("A", &image)), Some(refusal), "{wrong}");
+        check_eq(refused(T::judge("A", &image)), Some(refusal), wrong)?;
     }
     let past = sample_d(&[(1156, 1), (1158, 253), (1159, 3)]);
-    assert_eq!(rt;
+    check_eq(
         refused(T::judge("D", &past)),
         Some((10, 1)),
-        "past rank 215"
-    );
+        "past rank 215",
+    )
 }
 
 // A plan that goes after so many reads, and says no to so many lays.
@@ -124,10 +126,10 @@ fn leaving(mut image: Image, answers: u32) -> Option<(u8, usize)> {
 // The blocks that the check of the sample reads, in their order.
 const CHECKED: [usize; 9] = [3, 1, 2, 4, 5, 6, 8, 9, 10];
 
-pub(crate) fn check_leaving<T: Tried>(rt: &impl Abort) {
+pub(crate) fn check_leaving<T: Tried>() -> Result<(), Fail> {
     let card = T::sample();
     for (answers, block) in (0..9u32).zip(CHECKED) {
-        assert_eq!(rt; leaving(card, answers), Some((2, block)));
+        check_eq(leaving(card, answers), Some((2, block)), "a card that goes")?;
     }
-    assert_eq!(rt; leaving(card, 9), None);
+    check_eq(leaving(card, 9), None, "a card that stays")
 }

@@ -1,5 +1,5 @@
 // The listing that reads services: the sample card, each way in which an input, a card or a service is refused, and a card that leaves.
-use crate::cards::{DATA, Edits, altered, broken, refused, sample};
+use crate::cards::{DATA, Edits, altered, broken, check_eq, refused, sample};
 use crate::directories::{
     Tried, check_applications, check_leaving, check_nscp, check_services, going,
 };
@@ -8,21 +8,19 @@ use directory::{Directory, check_card};
 use full_listing::list;
 use layout::{Image, Profile, Refusal};
 use station::{Reading, Station};
-use std::alloc::{Alloc, AllocError, Global};
-use std::process::Abort;
+use std::alloc::Global;
 use std::test::Fail;
 
-fn check_record<R: Abort + Alloc<A = Global>>(
-    rt: &R,
+fn check_record(
+    heap: Global,
     letter: &str,
     bytes: &[u8],
     accepted: bool,
     expected: &str,
-) -> Result<(), AllocError> {
-    let listing = list(rt.alloc(), letter, bytes)?;
-    assert_eq!(rt; listing.accepted, accepted, "{expected}");
-    assert_eq!(rt; listing.text.as_str(), expected);
-    Ok(())
+) -> Result<(), Fail> {
+    let listing = list(heap, letter, bytes)?;
+    check_eq(listing.accepted, accepted, expected)?;
+    check_eq(listing.text.as_str(), expected, expected)
 }
 
 // Letters that are judged after the image's size, and what is said of the sample under each.
@@ -40,12 +38,12 @@ const LETTERS: [(&str, bool, &str); 7] = [
 fn records(rt: HostRuntime) -> Result<(), Fail> {
     let card = sample();
     for (letter, accepted, text) in LETTERS {
-        check_record(&rt, letter, &card, accepted, text)?;
+        check_record(rt.alloc(), letter, &card, accepted, text)?;
     }
-    check_record(&rt, "F", &card[0..4095], false, "refused 28\n")?;
-    check_record(&rt, "A", &[], false, "refused 28\n")?;
+    check_record(rt.alloc(), "F", &card[0..4095], false, "refused 28\n")?;
+    check_record(rt.alloc(), "A", &[], false, "refused 28\n")?;
     let wrong = broken(card, &[(47, 0x41)]);
-    check_record(&rt, "A", &wrong, false, "profile A\nrefused 4\n")?;
+    check_record(rt.alloc(), "A", &wrong, false, "profile A\nrefused 4\n")?;
     Ok(())
 }
 
@@ -91,7 +89,7 @@ const SERVICES: [(Edits, &str); 7] = [
 #[test]
 fn service_lines(rt: HostRuntime) -> Result<(), Fail> {
     for (edits, text) in SERVICES {
-        check_record(&rt, "A", &altered(sample(), edits), true, text)?;
+        check_record(rt.alloc(), "A", &altered(sample(), edits), true, text)?;
     }
     Ok(())
 }
@@ -113,24 +111,28 @@ impl Tried for Check {
 }
 
 #[test]
-fn application_directory(rt: HostRuntime) {
-    assert_eq!(rt; refused(Check::judge("F", &sample())), Some((1, 0)));
-    check_applications::<Check>(&rt);
+fn application_directory() -> Result<(), Fail> {
+    check_eq(
+        refused(Check::judge("F", &sample())),
+        Some((1, 0)),
+        "letter",
+    )?;
+    check_applications::<Check>()
 }
 
 #[test]
-fn nscp_directory(rt: HostRuntime) {
-    check_nscp::<Check>(&rt);
+fn nscp_directory() -> Result<(), Fail> {
+    check_nscp::<Check>()
 }
 
 #[test]
-fn services_directory(rt: HostRuntime) {
-    check_services::<Check>(&rt);
+fn services_directory() -> Result<(), Fail> {
+    check_services::<Check>()
 }
 
 #[test]
-fn a_card_that_leaves(rt: HostRuntime) {
-    check_leaving::<Check>(&rt);
+fn a_card_that_leaves() -> Result<(), Fail> {
+    check_leaving::<Check>()
 }
 
 // A buffer of five blocks whose first `blocks` were read: the data, 00 after it, and then the old bytes.
@@ -144,38 +146,37 @@ fn filled(blocks: u8) -> [u8; 80] {
 }
 
 // Reads the service from a card that goes after so many blocks of its run, lays the card again, and reads once more.
-fn check_leaving_run(rt: &impl Abort, blocks: u8, place: usize) -> Result<(), Refusal> {
+fn check_leaving_run(blocks: u8, place: usize) -> Result<(), Fail> {
     let mut image = altered(sample(), &[(135, 4)]);
     let card = TearCard::new(&mut image, going(9 + u32::from(blocks), 2));
     let mut station = Station::new(Profile::A, card, 1, 0);
     let mut buffer = [0xEE; 80];
     let read = station.read(0x1234, &mut buffer);
-    assert_eq!(rt; refused(read), Some((2, place)));
-    assert_eq!(rt; buffer, filled(blocks));
-    assert_eq!(rt; station.lay(), Laid::No);
+    check_eq(refused(read), Some((2, place)), "the card goes")?;
+    check_eq(buffer, filled(blocks), "what was read")?;
+    check_eq(station.lay(), Laid::No, "lay")?;
     let read = station.read(0x1234, &mut buffer);
-    assert_eq!(rt; refused(read), Some((2, 3)));
-    assert_eq!(rt; station.lay(), Laid::No);
-    assert_eq!(rt; buffer, filled(blocks));
-    assert_eq!(rt; station.lay(), Laid::Yes);
+    check_eq(refused(read), Some((2, 3)), "the card is off")?;
+    check_eq(station.lay(), Laid::No, "lay")?;
+    check_eq(buffer, filled(blocks), "what was read")?;
+    check_eq(station.lay(), Laid::Yes, "lay")?;
     let sample = Reading {
         tag: 0xE0,
         start: 2,
         length: 6,
         objects: 1,
     };
-    assert_eq!(rt; station.read(0x1234, &mut buffer)?, sample);
-    assert_eq!(rt; buffer, filled(4));
-    Ok(())
+    check_eq(station.read(0x1234, &mut buffer)?, sample, "the service")?;
+    check_eq(buffer, filled(4), "all four blocks")
 }
 
 // The blocks of a run of four, with a trailer after its third.
 const RUN: [usize; 4] = [12, 13, 14, 16];
 
 #[test]
-fn a_card_that_leaves_in_a_run(rt: HostRuntime) -> Result<(), Fail> {
+fn a_card_that_leaves_in_a_run() -> Result<(), Fail> {
     for (blocks, place) in (0..4u8).zip(RUN) {
-        check_leaving_run(&rt, blocks, place)?;
+        check_leaving_run(blocks, place)?;
     }
     Ok(())
 }

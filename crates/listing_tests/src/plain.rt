@@ -1,22 +1,15 @@
 // The lister's listing: the sample card, and each way in which an input or a card is refused.
-use crate::cards::{bare_sample, broken};
+use crate::cards::{bare_sample, broken, check_eq};
 use crate::directories::{Tried, check_applications, check_leaving, check_nscp, check_services};
 use directory::Directory;
 use layout::{Image, Refusal};
 use listing::{is_accepted, list, record_of};
-use std::alloc::{Alloc, AllocError, Global};
-use std::process::Abort;
+use std::alloc::Global;
 use std::test::Fail;
 
-fn check_record<R: Abort + Alloc<A = Global>>(
-    rt: &R,
-    letter: &str,
-    bytes: &[u8],
-    expected: &str,
-) -> Result<(), AllocError> {
-    let record = record_of(rt.alloc(), &list(letter, bytes))?;
-    assert_eq!(rt; record.as_str(), expected);
-    Ok(())
+fn check_record(heap: Global, letter: &str, bytes: &[u8], expected: &str) -> Result<(), Fail> {
+    let record = record_of(heap, &list(letter, bytes))?;
+    check_eq(record.as_str(), expected, expected)
 }
 
 // Letters that are judged after the image's size, and what is said of the sample under each.
@@ -35,13 +28,13 @@ fn records(rt: HostRuntime) -> Result<(), Fail> {
     let card = bare_sample();
     assert!(rt; is_accepted(&list("A", &card)));
     for (letter, text) in LETTERS {
-        check_record(&rt, letter, &card, text)?;
+        check_record(rt.alloc(), letter, &card, text)?;
     }
-    check_record(&rt, "F", &card[0..4095], "refused 28\n")?;
-    check_record(&rt, "A", &[], "refused 28\n")?;
+    check_record(rt.alloc(), "F", &card[0..4095], "refused 28\n")?;
+    check_record(rt.alloc(), "A", &[], "refused 28\n")?;
     let wrong = broken(card, &[(47, 0x41)]);
     assert!(rt; !is_accepted(&list("A", &wrong)));
-    check_record(&rt, "A", &wrong, "profile A\nrefused 4\n")?;
+    check_record(rt.alloc(), "A", &wrong, "profile A\nrefused 4\n")?;
     Ok(())
 }
 
@@ -59,21 +52,21 @@ impl Tried for Lister {
 }
 
 #[test]
-fn application_directory(rt: HostRuntime) {
-    check_applications::<Lister>(&rt);
+fn application_directory() -> Result<(), Fail> {
+    check_applications::<Lister>()
 }
 
 #[test]
-fn nscp_directory(rt: HostRuntime) {
-    check_nscp::<Lister>(&rt);
+fn nscp_directory() -> Result<(), Fail> {
+    check_nscp::<Lister>()
 }
 
 #[test]
-fn services_directory(rt: HostRuntime) {
-    check_services::<Lister>(&rt);
+fn services_directory() -> Result<(), Fail> {
+    check_services::<Lister>()
 }
 
 #[test]
-fn a_card_that_leaves(rt: HostRuntime) {
-    check_leaving::<Lister>(&rt);
+fn a_card_that_leaves() -> Result<(), Fail> {
+    check_leaving::<Lister>()
 }

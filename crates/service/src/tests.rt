@@ -3,7 +3,6 @@ use crate::frames::read_frame;
 use crate::objects::{Object, count_objects, next_object};
 use crate::writing::write_frame;
 use layout::{Crc16, Refusal, checksum};
-use std::process::Abort;
 use std::test::Fail;
 
 // One object, tag 5F20, format byte 01, data AB.
@@ -18,8 +17,17 @@ fn refused<T: Drop>(answer: Result<T, Refusal>) -> Option<(u8, usize)> {
         .map(|refusal| (refusal.number(), refusal.place))
 }
 
-fn check_run(rt: &impl Abort, run: &[u8], expected: Option<(u8, usize)>) {
-    assert_eq!(rt; refused(read_frame(run)), expected, "for {run:?}");
+// Fails unless two values are the same.
+fn check_eq<T: PartialEq + Drop>(found: T, expected: T) -> Result<(), Fail> {
+    if found == expected {
+        Ok(())
+    } else {
+        Err(Fail::new("two values differ"))
+    }
+}
+
+fn check_run(run: &[u8], expected: Option<(u8, usize)>) -> Result<(), Fail> {
+    check_eq(refused(read_frame(run)), expected)
 }
 
 // The sample with some bytes changed.
@@ -75,25 +83,25 @@ fn frames(rt: HostRuntime) -> Result<(), Fail> {
     assert_eq!(rt; frame.objects, 1);
     assert_eq!(rt; count_objects(frame.content)?, 1);
     for (run, place) in HEADERS {
-        check_run(&rt, &run, Some((13, place)));
+        check_run(&run, Some((13, place)))?;
     }
-    check_run(&rt, &[], Some((13, 0)));
-    check_run(&rt, &[0xE0], Some((13, 1)));
-    check_run(&rt, &[0x65, 0x81], Some((13, 1)));
-    check_run(&rt, &SAMPLE[0..11], Some((13, 8)));
-    check_run(&rt, &[0xE0, 0x00, 0xC0, 0x02, 0x36, 0x3C], None);
-    check_run(&rt, &[0xE0, 0x00, 0xC0, 0x02, 0x36], Some((13, 2)));
-    check_run(&rt, &changed(&[(9, 0x03)]), Some((13, 8)));
-    check_run(&rt, &changed(&[(11, 0x81)]), Some((14, 10)));
-    check_run(&rt, &changed(&[(12, 1), (15, 1)]), Some((16, 12)));
-    check_run(&rt, &changed(&[(15, 1)]), Some((16, 15)));
+    check_run(&[], Some((13, 0)))?;
+    check_run(&[0xE0], Some((13, 1)))?;
+    check_run(&[0x65, 0x81], Some((13, 1)))?;
+    check_run(&SAMPLE[0..11], Some((13, 8)))?;
+    check_run(&[0xE0, 0x00, 0xC0, 0x02, 0x36, 0x3C], None)?;
+    check_run(&[0xE0, 0x00, 0xC0, 0x02, 0x36], Some((13, 2)))?;
+    check_run(&changed(&[(9, 0x03)]), Some((13, 8)))?;
+    check_run(&changed(&[(11, 0x81)]), Some((14, 10)))?;
+    check_run(&changed(&[(12, 1), (15, 1)]), Some((16, 12)))?;
+    check_run(&changed(&[(15, 1)]), Some((16, 15)))?;
     Ok(())
 }
 
 #[test]
 fn contents(rt: HostRuntime) -> Result<(), Fail> {
     for (content, expected) in CONTENTS {
-        check_run(&rt, &run_of(content), expected);
+        check_run(&run_of(content), expected)?;
     }
     assert_eq!(rt; refused(next_object(&[0xC1, 0x01, 0x05], 4)), Some((15, 4)));
     assert_eq!(rt; refused(next_object(&[0xC1, 0x01, 0x05], 1)), Some((15, 1)));
@@ -125,27 +133,26 @@ fn content_of(tag: u8, length: u8, more: u8) -> [u8; 256] {
 }
 
 // Writes, reads back, and counts the blocks.
-fn check_written(rt: &impl Abort, content: &[u8], start: usize, blocks: u8) -> Result<(), Refusal> {
+fn check_written(content: &[u8], start: usize, blocks: u8) -> Result<(), Fail> {
     let mut run = [0xEE; 272];
     let written = write_frame(0x65, content, &mut run)?;
-    assert_eq!(rt; written, blocks);
+    check_eq(written, blocks)?;
     let (frame, after) = run.split_at(16 * usize::from(written));
     let frame = read_frame(frame)?;
-    assert_eq!(rt; frame.tag, 0x65);
-    assert_eq!(rt; frame.start, start);
-    assert_eq!(rt; frame.content, content);
-    assert!(rt; after.iter().all(|byte| *byte == 0xEE));
-    Ok(())
+    check_eq(frame.tag, 0x65)?;
+    check_eq(frame.start, start)?;
+    check_eq(frame.content, content)?;
+    check_eq(after.iter().all(|byte| *byte == 0xEE), true)
 }
 
 #[test]
 fn writes(rt: HostRuntime) -> Result<(), Fail> {
-    check_written(&rt, &[], 2, 1)?;
-    check_written(&rt, &content_of(0xC1, 8, 1)[0..10], 2, 1)?;
-    check_written(&rt, &content_of(0xC1, 9, 1)[0..11], 2, 2)?;
-    check_written(&rt, &content_of(0xC1, 125, 1)[0..127], 2, 9)?;
-    check_written(&rt, &content_of(0xC1, 126, 1)[0..128], 3, 9)?;
-    check_written(&rt, &content_of(0xC1, 0x81, 252)[0..255], 3, 17)?;
+    check_written(&[], 2, 1)?;
+    check_written(&content_of(0xC1, 8, 1)[0..10], 2, 1)?;
+    check_written(&content_of(0xC1, 9, 1)[0..11], 2, 2)?;
+    check_written(&content_of(0xC1, 125, 1)[0..127], 2, 9)?;
+    check_written(&content_of(0xC1, 126, 1)[0..128], 3, 9)?;
+    check_written(&content_of(0xC1, 0x81, 252)[0..255], 3, 17)?;
     let mut run = [0xEE; 272];
     assert_eq!(rt; refused(write_frame(0xE1, &[], &mut run)), Some((18, 0)));
     assert_eq!(rt;
