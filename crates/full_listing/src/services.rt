@@ -14,6 +14,7 @@ use text::{refused_line, slot_words};
 const ANY_RUN: usize = 4096;
 
 // A line for each used slot.
+#[tactic(auto, unfolding(crate::specs::Records::lines_of))]
 pub(crate) fn slot_lines<C: Card>(
     heap: Global,
     station: &mut Station<C>,

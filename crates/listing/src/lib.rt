@@ -88,6 +88,7 @@ fn directory_lines(heap: Global, directory: &Directory) -> Result<String, AllocE
     Ok(text)
 }
 
+#[tactic(auto, unfolding(crate::specs::Records::lines_of))]
 fn slot_lines(heap: Global, directory: &Directory) -> Result<String, AllocError>
     ensures { IfOk result (λ s. string_bytes s ≡ lines_of directory.now.services.bytes 11) }
 {
