@@ -19,7 +19,7 @@ returns-in_err-nscp-clause-look g c =
     search (
       rules,
       taken_then k (mad_look p) (λ b m. rest_look p m b) mad c.in_ok-bytes.ensures refl
-      (taken_stop k (nscp_look p mad) (λ b n. services_look p mad n b) _ c.in_err-nscp.ensures.look refl),
+          (taken_stop k (nscp_look p mad) (λ b n. services_look p mad n b) _ c.in_err-nscp.ensures.look refl),
     )
 
 pub returns-clause-look : goal.returns-clause-look

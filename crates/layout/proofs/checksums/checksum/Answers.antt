@@ -11,5 +11,5 @@ returns-clause-shows g c =
     let xs = c.args.bytes.now in
     let value : c.loop-byte.state ≡ fold k.step k.START xs = c.loop-byte.invariant ∙ ap (fold k.step k.START) (take_all _ _ c.loop-byte-test.false) in
     λ ys bytes differ same.
-        one_byte_shows k.fits k.step laws.stays laws.apart laws.shows k.START laws.starts
-        xs ys (All-from_get_or _ xs 0 (λ i _. (c.type_inv.bytes i).fits)) bytes differ (same ∙ value)
+    one_byte_shows k.fits k.step laws.stays laws.apart laws.shows k.START laws.starts
+    xs ys (All-from_get_or _ xs 0 (λ i _. (c.type_inv.bytes i).fits)) bytes differ (same ∙ value)
