@@ -1,6 +1,5 @@
 -- The write that is broken off. Assumes nothing.
 use Rattle.std.proofs.Common.{◌≡◌, ℕ, zero, suc, false, arith}
-use Rattle.std.proofs.lemmas.Bool.{true≢false}
 use Rattle.card.specs.Tears.{is_answered}
 use Rattle.card.specs.declared.tear.Phase.{Phase}
 use Rattle.card.specs.declared.tear.Phase.TheVariants.{Here}

@@ -1,21 +1,17 @@
 -- The directories that the check comes to lie on the card. Assumes nothing.
-use Rattle.std.proofs.Common.{◌≡◌, ℕ, ◌<◌, Bool, true, false, cond, not, ◌&&◌, ◌||◌, ◌==◌, eqb, List, get_or, Some, None, Ok, Err, Option, sym, refl, ap, ◌∙◌, subst, ⊎_elim, arith}
+use Rattle.std.proofs.Common.{◌≡◌, ℕ, ◌<◌, Bool, true, false, cond, not, ◌||◌, eqb, List, Some, None, Ok, Err, Option, sym, refl, ap, subst, arith}
 use Rattle.std.proofs.lemmas.Bool.Decides.{nat_tests}
-use Rattle.std.proofs.lemmas.Bool.{and_parts, or_cases, or_parts, both_ways, not-false, not_from_true, eqb-true, eqb-false, eq-eqb}
 use Rattle.layout.specs.Blocks.{rank_of, sector_of, position_of, trailer, first_of}
-use Rattle.layout.specs.Profiles.{mad_of, within, nscp_sectors, services_sectors}
-use Rattle.layout.specs.Refusals.{refuse}
+use Rattle.layout.specs.Profiles.{within, nscp_sectors, services_sectors}
 use Rattle.layout.specs.Runs.{on_card}
 use Rattle.layout.specs.declared.numbers.Block.{Block}
 use Rattle.layout.specs.declared.numbers.Sector.{Sector}
 use Rattle.layout.specs.declared.profiles.Profile.{Profile}
-use Rattle.layout.specs.declared.profiles.Profile.TheVariants.{A, B, C, D, E}
-use Rattle.layout.specs.declared.refusals.Reason.TheVariants.{NscpSector, NscpItem}
 use Rattle.layout.specs.declared.refusals.Refusal.{Refusal}
 use Rattle.layout.proofs.Below.{at}
 use Rattle.directory.specs.Entries.{item_at}
-use Rattle.directory.specs.Nscp.{is_nscp, nscp_sector_at, nscp_sector_judged, names_sector, item_wrong, tag_is, wrong_as, wrong_item, nscp_judged, first_item_judged}
-use Rattle.directory.specs.Searches.{count_of, lowest_of}
+use Rattle.directory.specs.Nscp.{nscp_sector_judged, names_sector, tag_is, wrong_as, wrong_item, nscp_judged}
+use Rattle.directory.specs.Searches.{lowest_of}
 use Rattle.directory.specs.Services.{item_found, services_at, services_judged}
 use Rattle.directory.specs.declared.entries.Item.{Item}
 use Rattle.directory.proofs.Searching.{lowest_all, lowest_some}

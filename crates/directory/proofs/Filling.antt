@@ -1,11 +1,10 @@
 -- Blocks read into a buffer, one after another. Assumes nothing.
-use Rattle.std.proofs.Common.{◌≡◌, ℕ, zero, suc, ◌+◌, ◌-◌, ◌*◌, ◌<◌, ◌≤◌, Bool, true, false, not, ◌&&◌, List, [], ◌∷◌, ◌++◌, length, get_or, take, is_some, Some, Ok, Err, sym, refl, ap, ◌∙◌, ⊎_elim, append_assoc, append-nil, arith, length-append, length-take}
+use Rattle.std.proofs.Common.{◌≡◌, ℕ, zero, suc, ◌+◌, ◌-◌, ◌*◌, ◌<◌, ◌≤◌, true, false, not, ◌&&◌, List, [], ◌∷◌, ◌++◌, length, get_or, take, is_some, Some, Ok, Err, sym, refl, ap, ◌∙◌, append_assoc, append-nil, arith, length-append, length-take}
 use native.Mathlib.Nat.{min-eq_left}
 use borrow.Rule.Slice.PartMut.{put_mid}
-use Rattle.std.proofs.Math.Bool.{and-true, and-false}
 use Rattle.std.proofs.lemmas.List.{take_all, take_more}
 use Rattle.std.proofs.lemmas.Option.{slice_get_past, gets}
-use Rattle.std.proofs.lemmas.Bool.{cases_Bool, cases_lt, both_ways}
+use Rattle.std.proofs.lemmas.Bool.{both_ways}
 use Rattle.std.specs.List.{slice_get}
 use Rattle.layout.specs.Buffers.{overlaid}
 use Rattle.layout.proofs.Overlaid.{put_behind}
@@ -35,9 +34,6 @@ module _ {C : Type 0} (kind : CardKind C) where
     pub off : present card ≡ false → i ≡ 0
     pub firm : steady card → steady later
     pub front : after ≡ overlaid (joined (blocks card) (take i touches)) before
-
-  pub progress_none : (touches : List ℕ) (card : C) (before : List ℕ) → Progress touches 0 card card before before
-  progress_none touches card before = record { same = refl; level = refl; off = λ _. refl; firm = λ s. s; front = refl }
 
   -- a block was read
   pub record One (t : ℕ) (card later : C) (bytes : List ℕ) : Type 0 where
@@ -129,11 +125,6 @@ module _ {C : Type 0} (kind : CardKind C) where
         };
         front = p.front;
       }
-
-  -- nothing was to be read
-  pub filled_none : (touches : List ℕ) (card : C) (buffer : List ℕ) → touches ≡ [] → Filled kind touches card card buffer buffer (Ok tt)
-  filled_none touches card buffer none =
-      progress_done touches 0 card card buffer buffer (omega (arith, ap length none)) (progress_none touches card buffer)
 
   -- a card that answered every read stayed for all of them
   stayed : (touches : List ℕ) (stay : ℕ) → ◌≡◌ {A = Answer (Unit {0})} (Ok tt) (unless_lost (slice_get touches stay) (Ok tt)) → length touches ≤ stay

@@ -1,18 +1,14 @@
 -- Looks at a card, one after another. Assumes nothing.
-use Rattle.std.proofs.Common.{◌≡◌, ℕ, zero, suc, ◌+◌, Bool, true, false, not, ◌&&◌, List, [], ◌∷◌, ◌++◌, length, is_some, Some, None, Ok, Err, Option, sym, refl, ap, ◌∙◌, subst, append-nil, suc-add, zero-add, arith, length-append}
-use Rattle.std.proofs.lemmas.Bool.{both_ways}
+use Rattle.std.proofs.Common.{◌≡◌, ℕ, ◌+◌, Bool, not, ◌&&◌, List, [], ◌∷◌, ◌++◌, length, is_some, Some, None, Ok, Err, Option, sym, refl, ap, ◌∙◌, subst, append-nil, arith, length-append}
 use Rattle.std.proofs.Math.Bool.{and-true}
 use Rattle.std.proofs.lemmas.List.{get_or_append_left, get_or-append-add}
 use Rattle.std.proofs.lemmas.Option.{gets}
 use Rattle.std.specs.List.{slice_get}
-use Rattle.layout.specs.Refusals.{refusal, refuse, Answer, then}
-use Rattle.layout.specs.declared.refusals.Reason.TheVariants.{CardGone}
+use Rattle.layout.specs.Refusals.{Answer, then}
 use Rattle.layout.specs.declared.refusals.Refusal.{Refusal}
-use Rattle.card.specs.Answers.{Read}
 use Rattle.card.specs.Blocks.{Blocks}
 use Rattle.card.specs.declared.interface.Card.{Ghosts as CardKind}
 use Rattle.directory.specs.Looks.{Look, judged, touches_after, then_look, lost_at, unless_lost, Looked, Taken}
-use Rattle.directory.specs.Reads.{block_look}
 
 -- nothing was read
 pub looked_none : {X : Type 0} (r : Answer X) (blocks : Blocks) (on : Bool) → Looked (judged r) blocks on blocks on r

@@ -1,17 +1,15 @@
 -- A directory that was read. Assumes nothing.
-use Rattle.std.proofs.Common.{◌≡◌, ℕ, ◌-◌, ◌*◌, ◌≤◌, Bool, true, false, leb, List, length, take, drop, replicate, Ok, Err, sym, refl, ap, ◌∙◌, subst, arith}
+use Rattle.std.proofs.Common.{◌≡◌, ℕ, ◌-◌, ◌*◌, ◌≤◌, true, false, List, length, take, drop, replicate, Ok, Err, refl, ap, ◌∙◌, subst, arith}
 use lib.Seq.{take-append_seam}
 use Rattle.std.proofs.lemmas.Grind.{common_steps}
-use Rattle.std.proofs.lemmas.Bool.{and_from, cond-true, cond-false, le-leb}
 use Rattle.layout.specs.Refusals.{refusal, Answer}
 use Rattle.layout.specs.Runs.{on_card}
 use Rattle.layout.specs.declared.refusals.Reason.{Reason}
 use Rattle.layout.specs.declared.refusals.Refusal.{Refusal}
-use Rattle.card.specs.Blocks.{Blocks}
 use Rattle.card.specs.declared.interface.Card.{Ghosts as CardKind}
 use Rattle.directory.specs.Judged.{directory_bytes, padded, seal_judged, sealed_look}
 use Rattle.directory.specs.Looks.{Taken}
-use Rattle.directory.specs.Reads.{run_touches, run_reads, touch_look, joined, Filled}
+use Rattle.directory.specs.Reads.{run_touches, run_reads, touch_look, Filled}
 use Rattle.directory.specs.Seals.{sealed}
 use Rattle.directory.proofs.Filling.{length_joined, filled_whole}
 use Rattle.directory.proofs.Looking.{taken_judge}

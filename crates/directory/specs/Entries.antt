@@ -1,5 +1,5 @@
 -- Entries of a directory: what stands at each place, and what an unused place is. Assumes nothing.
-use Rattle.std.specs.Prelude.{ℕ, ◌+◌, ◌*◌, ◌/◌, ◌%◌, Bool, true, cond, ◌&&◌, List, [], ◌∷◌, replicate, Some, None, Option, ◌==◌, nat_le, slice_index}
+use Rattle.std.specs.Prelude.{ℕ, ◌+◌, ◌*◌, ◌/◌, ◌%◌, Bool, cond, List, [], ◌∷◌, replicate, Some, None, Option, ◌==◌, nat_le, slice_index}
 use Rattle.std.proofs.Math.Seq.{paste}
 use Rattle.std.specs.List.{between, list_all}
 use Rattle.layout.specs.Blocks.{to_block}

@@ -1,5 +1,5 @@
 -- The fuller record of a card image, with its services read. Assumes nothing.
-use Rattle.std.specs.Prelude.{ℕ, zero, suc, ◌/◌, ◌%◌, Bool, false, List, [], ◌++◌, is_ok, Some, None, Ok, Err, codes, decimal, Option}
+use Rattle.std.specs.Prelude.{ℕ, zero, suc, Bool, false, List, [], ◌++◌, is_ok, Some, None, Ok, Err, codes, decimal, Option}
 use Rattle.std.specs.Option.{ok_or}
 use Rattle.layout.specs.Images.{image_of}
 use Rattle.layout.specs.Profiles.{letter_of, profile_of}

@@ -1,5 +1,5 @@
 -- Answers that are no refusals. Assumes nothing.
-use Rattle.std.proofs.Common.{◌≡◌, ℕ, Ok, Err, refl, arith}
+use Rattle.std.proofs.Common.{◌≡◌, Ok, Err, refl, arith}
 use Rattle.layout.specs.Refusals.{Answer, then}
 
 -- an answer that is no refusal has one before it

@@ -1,7 +1,7 @@
 -- Ranks and data blocks, each rule from a test at every block. Assumes nothing.
-use Rattle.std.proofs.Common.{◌≡◌, ℕ, ◌+◌, ◌-◌, ◌/◌, ◌<◌, ◌≤◌, Bool, true, false, not, ◌&&◌, ◌||◌, eqb, leb, is_some, Some, None, Option, sym, refl, ap, subst, ⊎_elim, MatchOption, arith}
+use Rattle.std.proofs.Common.{◌≡◌, ℕ, ◌+◌, ◌-◌, ◌/◌, ◌<◌, ◌≤◌, Bool, true, false, not, ◌&&◌, ◌||◌, eqb, leb, is_some, Some, None, Option, sym, refl, ap, subst, MatchOption, arith}
 use Rattle.std.specs.Option.{option_map}
-use Rattle.std.proofs.lemmas.Bool.{eqb-true, leb-true, and_parts, not-true, or_cases, both_ways}
+use Rattle.std.proofs.lemmas.Bool.{leb-true}
 use Rattle.std.proofs.lemmas.Grind.{common_steps}
 use Rattle.std.proofs.lemmas.Option.{slice_get_past}
 use Rattle.layout.specs.Blocks.{rank_of, sector_of, trailer, data_from, data_block, Ranked, to_block}

@@ -1,10 +1,10 @@
 -- The blocks of a run. Assumes nothing.
-use Rattle.std.proofs.Common.{◌≡◌, ℕ, ◌+◌, ◌-◌, ◌<◌, ◌≤◌, Bool, true, false, not, ◌&&◌, ltb, leb, is_some, Some, None, Decides, sym, refl, ap, ◌∙◌, ⊎_elim, add-zero, arith}
+use Rattle.std.proofs.Common.{◌≡◌, ℕ, ◌+◌, ◌-◌, ◌<◌, ◌≤◌, Bool, false, ◌&&◌, ltb, is_some, Some, Decides, sym, ap, ◌∙◌, ⊎_elim, arith}
 use Rattle.std.proofs.lemmas.Grind.{common_steps}
 use Rattle.std.proofs.lemmas.Bool.Decides.{nat_tests}
-use Rattle.std.proofs.lemmas.Bool.{lt-ltb, le-ltb, cond-true, cond-false, and_from, and_left, and_right, not_from_true, not_from_false, cases_lt, false≢true, and_parts, ltb-true}
+use Rattle.std.proofs.lemmas.Bool.{cases_lt}
 use Rattle.layout.specs.Blocks.{trailer, rank_of, data_block}
-use Rattle.layout.specs.Runs.{run_block, on_card, OnCard, runs_meet, Shared}
+use Rattle.layout.specs.Runs.{run_block, OnCard, Shared}
 use Rattle.layout.proofs.RankBlocks.{past_block, block_there, rank_le, from_rank, from_block}
 
 pub run_block_rank : (start n i : ℕ) → i < n → trailer start ≡ false → run_block start n i ≡ data_block (rank_of start + i)

@@ -1,18 +1,16 @@
 -- The runs of an accepted directory's slots lie on the card. Assumes nothing.
-use Rattle.std.proofs.Common.{◌≡◌, ℕ, ◌<◌, Bool, true, false, cond, not, ◌||◌, eqb, Some, None, Ok, Option, sym, refl, ap, ◌∙◌, subst, arith}
-use Rattle.std.proofs.lemmas.Bool.{or_parts, not-false}
-use Rattle.layout.specs.Refusals.{refuse}
-use Rattle.layout.specs.Runs.{run_block, on_card}
+use Rattle.std.proofs.Common.{◌≡◌, ℕ, ◌<◌, true, false, Some, None, Ok, Option, sym, refl, ap, subst, arith}
+use Rattle.layout.specs.Runs.{on_card}
 use Rattle.layout.specs.declared.profiles.Profile.{Profile}
-use Rattle.layout.specs.declared.refusals.Reason.TheVariants.{ServicesChecksum, ServicesSlot}
+use Rattle.layout.specs.declared.refusals.Reason.TheVariants.{ServicesChecksum}
 use Rattle.layout.proofs.Answered.{then_ok}
 use Rattle.card.specs.Blocks.{Blocks}
 use Rattle.directory.specs.Checks.{together, check_look, nscp_look, verdict}
 use Rattle.directory.specs.Entries.{slot_at}
 use Rattle.directory.specs.Judged.{mad_look, sealed_look}
-use Rattle.directory.specs.Searches.{any_of, lowest_of}
+use Rattle.directory.specs.Searches.{lowest_of}
 use Rattle.directory.specs.Services.{services_judged}
-use Rattle.directory.specs.Slots.{no_service, slot_wrong, wrong_slot_as, wrong_slot, shares_earlier, lower, first_slot_judged, header_clear, slots_judged, number_is}
+use Rattle.directory.specs.Slots.{slot_wrong, wrong_slot_as, wrong_slot, slots_judged, number_is}
 use Rattle.directory.specs.declared.accepted.Directory.{Directory}
 use Rattle.directory.specs.declared.entries.Slot.{Slot}
 use Rattle.directory.proofs.Searching.{lowest_all, lowest_some}

@@ -1,20 +1,17 @@
 -- Reading a service, step after step. Assumes nothing.
-use Rattle.std.proofs.Common.{◌≡◌, ℕ, ◌+◌, ◌*◌, ◌<◌, ◌≤◌, Bool, true, false, cond, leb, List, [], ◌∷◌, ◌++◌, length, take, drop, Some, None, Ok, Err, Option, sym, refl, ap, ◌∙◌, subst, ⊎_elim, append-nil, suc-add, zero-add, arith, length-take}
+use Rattle.std.proofs.Common.{◌≡◌, ℕ, ◌+◌, ◌*◌, ◌≤◌, List, ◌++◌, length, take, drop, Some, None, Ok, Err, Option, sym, refl, ap, ◌∙◌, subst, append-nil, zero-add, arith, length-take}
 use Rattle.std.proofs.Math.Seq.{take-append-add, drop-append_seam}
 use Rattle.std.proofs.lemmas.Grind.{common_steps}
-use Rattle.std.proofs.lemmas.List.{drop_all, drop_at, take_at, take_all}
+use Rattle.std.proofs.lemmas.List.{drop_all, take_at, take_all}
 use Rattle.std.proofs.lemmas.Option.{slice_get_within}
-use Rattle.std.proofs.lemmas.Bool.{cases_lt, leb-true}
-use Rattle.std.specs.List.{slice_get}
 use Rattle.layout.specs.Buffers.{overlaid}
-use Rattle.layout.specs.Refusals.{Answer, then, refuse}
+use Rattle.layout.specs.Refusals.{Answer}
 use Rattle.layout.specs.declared.profiles.Profile.{Profile}
-use Rattle.layout.specs.declared.refusals.Reason.TheVariants.{BufferLength}
 use Rattle.layout.specs.declared.refusals.Refusal.{Refusal}
 use Rattle.card.specs.Blocks.{Blocks}
 use Rattle.card.specs.declared.interface.Card.{Ghosts as CardKind}
 use Rattle.directory.specs.Checks.{check_look, reads, verdict}
-use Rattle.directory.specs.Looks.{Look, judged, then_look, touches_after, lost_at, unless_lost, Taken}
+use Rattle.directory.specs.Looks.{Look, judged, then_look, touches_after, lost_at, Taken}
 use Rattle.directory.specs.Reads.{run_reads, touch_look, joined, Filled}
 use Rattle.directory.specs.declared.accepted.Directory.{Directory}
 use Rattle.directory.proofs.Filling.{length_joined, filled_whole}

@@ -1,5 +1,5 @@
 -- Reading a service's data: which blocks are read, what they say, and what the buffer holds after. Assumes nothing.
-use Rattle.std.specs.Prelude.{◌≡◌, ℕ, ◌*◌, Bool, cond, List, length, take, drop, Ok, nat_le}
+use Rattle.std.specs.Prelude.{◌≡◌, ℕ, ◌*◌, cond, List, length, take, drop, Ok, nat_le}
 use Rattle.layout.specs.Buffers.{overlaid}
 use Rattle.layout.specs.Refusals.{Answer, then, refuse}
 use Rattle.layout.specs.declared.profiles.Profile.{Profile}

@@ -1,9 +1,9 @@
-use Rattle.std.proofs.Common.{◌≡◌, Err, sym, refl, rules, arith, subst}
+use Rattle.std.proofs.Common.{◌≡◌, sym, refl, rules, arith}
 use Rattle.layout.specs.Blocks.{first_of, to_block}
 use Rattle.layout.specs.declared.refusals.Reason.TheVariants.{NscpChecksum}
 use Rattle.directory.specs.Checks.{nscp_accepted, nscp_look_at}
 use Rattle.directory.specs.Judged.{sealed_look}
-use Rattle.directory.specs.Looks.{judged, Taken}
+use Rattle.directory.specs.Looks.{judged}
 use Rattle.directory.specs.Nscp.{nscp_sector_judged}
 use Rattle.directory.proofs.DirectoryPlaces.{nscp_on_card}
 use Rattle.directory.proofs.Looking.{taken_none, taken_stop, taken_then}

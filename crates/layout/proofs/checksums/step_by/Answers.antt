@@ -1,7 +1,7 @@
 use Rattle.std.proofs.Common.{◌≡◌, ◌-◌, ◌*◌, ◌%◌, ◌^◌, ◌<◌, sym, ap, ◌∙◌, subst, arith}
 use lib.Bits.{bit_xor}
 use Rattle.layout.specs.Crc.{round, rounds}
-use Rattle.layout.specs.Rounds.{rounds_none, rounds_more, round_lt, added_fits, doubled_fits, turn_low, turn_high, eight_turns}
+use Rattle.layout.specs.Rounds.{rounds_none, rounds_more, round_lt, added_fits, turn_low, turn_high, eight_turns}
 use Rattle.layout.proofs.checksums.step_by.Goals.{then-register-top, else-register-top}
 use Rattle.layout.proofs.checksums.step_by.Goals as goal
 

@@ -1,6 +1,5 @@
-use Rattle.std.proofs.Common.{◌≡◌, ◌+◌, arith}
+use Rattle.std.proofs.Common.{arith}
 use Rattle.std.proofs.lemmas.Bool.{leb-true, le-leb}
-use Rattle.layout.specs.Blocks.{rank_of}
 use Rattle.layout.proofs.RunBlocks.{on_card_lem, on_card_within}
 use Rattle.layout.proofs.runs.Run.is_on_card.Goals as goal
 

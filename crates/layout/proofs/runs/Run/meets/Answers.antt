@@ -1,5 +1,4 @@
-use Rattle.std.proofs.Common.{◌≡◌, ◌+◌, ◌&&◌, ltb, sym, ap, ◌∙◌, arith}
-use Rattle.layout.specs.Blocks.{rank_of}
+use Rattle.std.proofs.Common.{arith}
 use Rattle.layout.proofs.RunBlocks.{meet_decides}
 use Rattle.layout.proofs.runs.Run.meets.Goals as goal
 
