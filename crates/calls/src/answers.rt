@@ -11,7 +11,7 @@ use text::hex_bytes;
 // What a buffer is filled with before a read.
 pub const FILL: u8 = 0xEE;
 
-// A line of the record: the line that was read, and its answer.
+// A line of the record: the line that was read, and its answer. The line is bytes and need not be text, so no `format!` can join them.
 pub fn record_line(heap: Global, line: &[u8], answer: &str) -> Result<Vec<u8>, AllocError>
     ensures { IfOk result (λ v. v.items ≡ line.now ++ (codes ": " ++ (answer.now ++ codes "\n"))) }
 {
@@ -40,7 +40,7 @@ fn found_words(heap: Global, found: Found) -> Result<String, AllocError>
     format!(in heap; "slot {} run {:02X} {length:02X}", found.slot, start.0)
 }
 
-// `yes` or `no`
+// `yes` or `no`: no `Display`, since the words are the record's and `Laid` is the card's
 pub(crate) fn lay_words(laid: Laid) -> &'static str
     ensures { result.now ≡ lay_words laid }
 {

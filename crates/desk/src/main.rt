@@ -18,8 +18,11 @@ const USAGE: &str =
     "usage: desk LETTER IMAGE [--station N] [--last N] [--tear COUNT old|new|HEX32 LAYS] [--save FILE], calls on standard input";
 
 fn main(rt: HostRuntime) -> anyhow::Result<ExitCode> {
-    let words: Vec<String> = env::args(&rt)?.skip(1).collect(rt.alloc())?;
-    let Some(options) = Options::from_words(words.as_slice()) else {
+    let words = words(&rt);
+    let Some(options) = words
+        .as_ref()
+        .and_then(|words| Options::from_words(words.as_slice()))
+    else {
         eprintln!(rt; "{USAGE}")?;
         return Ok(ExitCode::FAILURE);
     };
@@ -35,10 +38,15 @@ fn main(rt: HostRuntime) -> anyhow::Result<ExitCode> {
             Ok(ExitCode::SUCCESS)
         }
         Err(refusal) => {
-            print!(rt; "{}", refused_line(rt.alloc(), refusal)?)?;
+            print!(rt; "{}", refused_line(rt.alloc(), refusal.number())?)?;
             Ok(ExitCode::FAILURE)
         }
     }
+}
+
+// The words behind the program's name; none if one is no text, or there is no memory for them.
+fn words(rt: &HostRuntime) -> Option<Vec<String>> {
+    env::args(rt).ok()?.skip(1).collect(rt.alloc()).ok()
 }
 
 // Runs the calls on the card in an image, and answers the image as they leave it.

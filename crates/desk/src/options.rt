@@ -25,7 +25,7 @@ const DECIMAL: Notation = Notation {
 };
 
 impl<'a> Options<'a> {
-    // The options in the words behind the program's name; none if they are not understood.
+    // The options in the words behind the program's name; none if they are not understood. No `TryFrom`, since there is no error to tell.
     pub(crate) fn from_words(words: &'a [String]) -> Option<Options<'a>> {
         let [letter, path, rest @ ..] = words else {
             return None;
@@ -39,6 +39,7 @@ impl<'a> Options<'a> {
             save: None,
         };
         let mut rest = rest;
+        // each option takes as many words as it has values
         while let Some((name, values)) = rest.split_first() {
             rest = options.take(name.as_str(), values)?;
         }

@@ -1,4 +1,4 @@
-// The directories of a card, as they were read, each at the front of 48 bytes.
+// The directories of a card, as they were read, each at the front of 48 bytes. Three types, since each is asked things of its own.
 use layout::{Block, Profile, Sector};
 
 // An application directory, and the profile that says where it stands and which sectors it lists.

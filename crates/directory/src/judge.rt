@@ -13,7 +13,7 @@ use layout::{Profile, Reason, Refusal, Run};
 // Where the general purpose byte stands in a trailer.
 const GENERAL_PURPOSE: usize = 9;
 
-// The first wrong place of a directory is refused, counted from 1.
+// The first wrong place of a directory is refused, counted from 1. A `match`, since `map_or` with an `Err` in its closure is no plainer.
 pub(crate) fn judge_first(first: Option<u8>, reason: Reason) -> Result<(), Refusal>
     ensures { result ≡ first_judged reason first }
 {

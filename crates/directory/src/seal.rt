@@ -8,10 +8,9 @@ use layout::{Crc8, checksum};
 pub fn is_sealed(directory: &[u8]) -> bool
     ensures { result ≡ sealed directory.now }
 {
-    match directory.split_first() {
-        Some((sum, rest)) => *sum == checksum::<Crc8>(rest),
-        None => false,
-    }
+    directory
+        .split_first()
+        .is_some_and(|(sum, rest)| *sum == checksum::<Crc8>(rest))
 }
 
 // Gives a directory its seal: only its first byte changes, and then it is sealed.

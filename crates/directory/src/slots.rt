@@ -47,6 +47,14 @@ impl Directory {
             && !self.applications.is_listed_otherwise(sector)
     }
 
+    // The first slot with this number, counted from 0.
+    #[tactic(auto, unfolding(crate::specs::Searches::lowest_of))]
+    pub fn first_numbered(&self, number: u16) -> Option<u8>
+        ensures { result ≡ lowest_of (λ i. number_is number (slot_at self.now.services.bytes i)) 11 }
+    {
+        (0..SLOTS).find(|i| self.services.is_numbered(*i, number))
+    }
+
     // The header of the services directory and then its slots, the lowest wrong one deciding.
     pub(crate) fn judge_slots(&self) -> Result<(), Refusal>
         ensures { result ≡ slots_judged self.now }

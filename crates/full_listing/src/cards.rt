@@ -41,11 +41,11 @@ fn verdict_lines<C: Card>(
 {
     match verdict {
         Ok(directory) => directory_lines(heap, station, &directory),
-        Err(refusal) => refused_line(heap, refusal),
+        Err(refusal) => refused_line(heap, refusal.number()),
     }
 }
 
-// A line for each used slot, and then how many service blocks are free.
+// A line for each used slot, and then how many service blocks are free. `listing` has functions of this shape for lines that read nothing: here the station changes from slot to slot, and the contracts say how.
 fn directory_lines<C: Card>(
     heap: Global,
     station: &mut Station<C>,

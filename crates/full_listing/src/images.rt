@@ -44,7 +44,7 @@ fn refused_listing(heap: Global, refusal: Refusal) -> Result<Listing, AllocError
     ensures text { IfOk result (λ l. string_bytes l.text ≡ record_for (Err refusal)) }
     ensures accepted { IfOk result (λ l. l.accepted ≡ false) }
 {
-    let text = refused_line(heap, refusal)?;
+    let text = refused_line(heap, refusal.number())?;
     Ok(Listing {
         text,
         accepted: false,

@@ -73,7 +73,7 @@ fn reading_words(heap: Global, reading: Result<Reading, Refusal>) -> Result<Stri
 {
     match reading {
         Ok(reading) => tag_words(heap, reading),
-        Err(refusal) => refused_line(heap, refusal),
+        Err(refusal) => refused_line(heap, refusal.number()),
     }
 }
 

@@ -43,10 +43,7 @@ fn judge(image: &mut Image, profile: Profile) -> Result<Directory, Refusal>
 pub fn is_accepted(listing: &Result<Listing, Refusal>) -> bool
     ensures { result ≡ accepted listing.now }
 {
-    match listing {
-        Ok(card) => card.verdict.is_ok(),
-        Err(_) => false,
-    }
+    listing.as_ref().is_ok_and(|card| card.verdict.is_ok())
 }
 
 // The record's text, each line ended.
@@ -55,7 +52,7 @@ pub fn record_of(heap: Global, listing: &Result<Listing, Refusal>) -> Result<Str
 {
     match listing {
         Ok(card) => card_record(heap, card),
-        Err(refusal) => refused_line(heap, *refusal),
+        Err(refusal) => refused_line(heap, refusal.number()),
     }
 }
 
@@ -74,11 +71,11 @@ fn verdict_lines(heap: Global, verdict: &Result<Directory, Refusal>) -> Result<S
 {
     match verdict {
         Ok(directory) => directory_lines(heap, directory),
-        Err(why) => refused_line(heap, *why),
+        Err(why) => refused_line(heap, why.number()),
     }
 }
 
-// A line for each used slot, and then how many service blocks are free.
+// A line for each used slot, and then how many service blocks are free. The fuller listing has functions of this shape of its own: there the station changes from slot to slot, and the contracts say how.
 fn directory_lines(heap: Global, directory: &Directory) -> Result<String, AllocError>
     ensures { IfOk result (λ s. string_bytes s ≡ lines_of directory.now.services.bytes 11 ++ free_line (free_blocks directory.now)) }
 {

@@ -92,7 +92,7 @@ pub(crate) fn refused<T: Drop>(answer: Result<T, Refusal>) -> Option<(u8, usize)
         .map(|refusal| (refusal.number(), refusal.place))
 }
 
-// Fails with these words unless two values are the same. The tests of another crate have a helper like it and like `refused`: two crates' tests share no module.
+// Fails with these words unless two values are the same. The tests of `service` have helpers like this, `refused` and `broken`: two crates' tests share no module.
 pub(crate) fn check_eq<T: PartialEq + Drop>(
     found: T,
     expected: T,

@@ -75,6 +75,7 @@ fn read_header(run: &[u8]) -> Result<Header, Refusal>
 fn judge_end(run: &[u8], end: usize) -> Result<(), Refusal>
     ensures { result ≡ end_judged run.now end }
 {
+    // the bytes of MARK, since a pattern cannot name a part of a constant
     let Some([0xC0, 0x02, high, low, ..]) = run.get(end..) else {
         return Err(Refusal::at(Reason::DataFrame, end));
     };
@@ -84,7 +85,7 @@ fn judge_end(run: &[u8], end: usize) -> Result<(), Refusal>
     Ok(())
 }
 
-// Every byte from an offset on is 00.
+// Every byte from an offset on is 00. A `match`, since `map_or` with an `Err` in its closure is no plainer.
 fn judge_padding(run: &[u8], from: usize) -> Result<(), Refusal>
     requires { from ≤ length run.now }
     ensures { result ≡ padding_judged run.now from }

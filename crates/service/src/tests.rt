@@ -10,7 +10,7 @@ const SAMPLE: [u8; 16] = [
     0xE0, 0x06, 0x5F, 0x20, 0x03, 0x01, 0x41, 0x42, 0xC0, 0x02, 0x51, 0x80, 0, 0, 0, 0,
 ];
 
-// A refusal's number and place.
+// A refusal's number and place. The tests of the listings have this and the next two helpers as well: two crates' tests share no module.
 fn refused<T: Drop>(answer: Result<T, Refusal>) -> Option<(u8, usize)> {
     answer
         .err()

@@ -16,7 +16,7 @@ use layout::{Crc16, Reason, Refusal, checksum};
 // The most bytes that a written run has: 17 blocks, for a content of 255 bytes.
 pub const LONGEST_RUN: usize = 272;
 
-// Writes the frame of a tag and a content at the front of a buffer, as whole blocks, and answers how many. Refused, with the buffer as it was, if the tag is no outer tag, or the content is over 255 bytes or has a wrong object.
+// Writes the frame of a tag and a content at the front of a buffer, as whole blocks, and answers how many. Refused, with the buffer as it was, if the tag is no outer tag, or the content is over 255 bytes or has a wrong object. The caller lends the bytes, for there is no heap here.
 pub fn write_frame(tag: u8, content: &[u8], run: &mut [u8; 272]) -> Result<u8, Refusal>
     ensures answer { result ≡ (then) (write_judged tag content.now) (λ _. Ok (blocks_for (length content.now))) }
     ensures buffer { run.new ≡ (if is_ok result then overlaid (frame_bytes tag content.now) run.old else run.old) }
