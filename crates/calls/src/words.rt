@@ -35,7 +35,7 @@ pub fn first_word<'a>(line: &'a [u8]) -> Split<'a>
     }
 }
 
-// How many bytes come before the first blank.
+// How many bytes come before the first blank. This and the next two say that they are within the line, since a slice is cut by each.
 fn word_length(line: &[u8]) -> usize
     ensures value { result ≡ word_length line.now }
     ensures within { result ≤ length line.now }

@@ -42,7 +42,7 @@ pub trait Entry: Sized {
 
     const WIDTH: usize;
 
-    // What the bytes of a used place mean.
+    // What the bytes of a used place mean. That they are as many as an entry has stands in three contracts: an array of so many would need a constant of the trait as its length, which the language refuses.
     fn read(bytes: &[u8]) -> Self
         requires { length bytes.now ≡ WIDTH }
         ensures { result ≡ parse bytes.now };

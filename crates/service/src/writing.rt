@@ -31,7 +31,7 @@ pub fn write_frame(tag: u8, content: &[u8], run: &mut [u8; 272]) -> Result<u8, R
     Ok(blocks)
 }
 
-// The tag is an outer tag, the content is short enough and has no wrong object; answers the content's length.
+// Tag and content stay two parameters, as the call has them. The tag is an outer tag, the content is short enough and has no wrong object; answers the content's length.
 fn judge_new(tag: u8, content: &[u8]) -> Result<u8, Refusal>
     ensures { result ≡ (then) (write_judged tag content.now) (λ _. Ok (length content.now)) }
 {
