@@ -23,18 +23,17 @@ pub fn list(heap: Global, letter: &str, bytes: &[u8]) -> Result<Listing, AllocEr
     ensures accepted { IfOk result (λ l. l.accepted ≡ accepted_of letter.now bytes.now) }
 {
     match input_of(letter, bytes) {
-        Ok(input) => image_listing(heap, input),
+        Ok(mut input) => image_listing(heap, &mut input),
         Err(refusal) => refused_listing(heap, refusal),
     }
 }
 
-// The listing of a card inside an image.
-fn image_listing(heap: Global, input: Input) -> Result<Listing, AllocError>
-    ensures text { IfOk result (λ l. string_bytes l.text ≡ record_for (Ok input)) }
-    ensures accepted { IfOk result (λ l. l.accepted ≡ accepted_for (Ok input)) }
+// The listing of a card inside an image, which is lent, so that its 4,096 bytes are not copied.
+fn image_listing(heap: Global, input: &mut Input) -> Result<Listing, AllocError>
+    ensures text { IfOk result (λ l. string_bytes l.text ≡ record_for (Ok input.old)) }
+    ensures accepted { IfOk result (λ l. l.accepted ≡ accepted_for (Ok input.old)) }
 {
-    let mut image = input.image;
-    let card = ImageCard::new(&mut image);
+    let card = ImageCard::new(&mut input.image);
     let mut station = Station::new(input.profile, card, 0, 0);
     card_listing(heap, &mut station)
 }

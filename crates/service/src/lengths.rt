@@ -13,14 +13,14 @@ pub struct Length {
 pub(crate) fn length_at(bytes: &[u8], at: usize) -> Option<Length>
     ensures { result ≡ length_at bytes.now at }
 {
-    match bytes.get(at..)? {
-        [count @ 0..=0x7F, ..] => Some(Length {
+    match *bytes.get(at)? {
+        count @ 0..=0x7F => Some(Length {
             after: at + 1,
-            count: usize::from(*count),
+            count: usize::from(count),
         }),
-        [0x81, count, ..] => Some(Length {
+        0x81 => Some(Length {
             after: at + 2,
-            count: usize::from(*count),
+            count: usize::from(*bytes.get(at + 1)?),
         }),
         _ => None,
     }

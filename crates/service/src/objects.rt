@@ -52,21 +52,21 @@ fn value_at<'a>(content: &'a [u8], at: usize) -> Option<Value<'a>>
 fn object_at<'a>(content: &'a [u8], at: usize) -> Option<Object<'a>>
     ensures { object_seen result ≡ object_at content.now at }
 {
-    match content.get(at..)? {
-        [] | [0, ..] => None,
-        [tag, ..] if *tag & 0x1F != 0x1F => {
+    match (*content.get(at)?, content.get(at + 1)) {
+        (0, _) => None,
+        (tag, _) if tag & 0x1F != 0x1F => {
             let Value { format, data, next } = value_at(content, at + 1)?;
             Some(Object::OneByte {
-                tag: *tag,
+                tag,
                 format,
                 data,
                 next,
             })
         }
-        [first, second @ 0..=0x7F, ..] => {
+        (first, Some(second @ 0..=0x7F)) => {
             let Value { format, data, next } = value_at(content, at + 2)?;
             Some(Object::TwoByte {
-                tag: u16::from_be_bytes([*first, *second]),
+                tag: u16::from_be_bytes([first, *second]),
                 format,
                 data,
                 next,

@@ -1,5 +1,5 @@
 // The frame of service data, written into the bytes of a run.
-ghost use Rattle.std.specs.Prelude.{◌≡◌, ◌∷◌, length, is_ok, if◌then◌else◌, Ok};
+ghost use Rattle.std.specs.Prelude.{◌≡◌, [], ◌∷◌, length, is_ok, if◌then◌else◌, Ok};
 ghost use Rattle.layout.specs.Buffers.{overlaid};
 ghost use Rattle.layout.specs.Refusals.{then};
 ghost use Rattle.service.specs.Frames.{write_judged, blocks_for, summed, frame_bytes};
@@ -24,7 +24,8 @@ pub fn write_frame(tag: u8, content: &[u8], run: &mut [u8; 272]) -> Result<u8, R
 {
     let count = judge_new(tag, content)?;
     let blocks = blocks_for(count);
-    let frame = framed(tag, count, content);
+    let mut frame = ArrayVec::new();
+    push_frame(&mut frame, tag, count, content);
     let end = frame.len();
     run[..end].copy_from_slice(frame.as_slice());
     run[end..16 * usize::from(blocks)].fill(0);
@@ -43,28 +44,27 @@ fn judge_new(tag: u8, content: &[u8]) -> Result<u8, Refusal>
     Ok(count)
 }
 
-// The bytes of a frame up to its padding.
-fn framed(tag: u8, count: u8, content: &[u8]) -> ArrayVec<u8, LONGEST_RUN>
-    requires { count ≡ length content.now }
-    ensures { result.items ≡ summed (covered tag (short_length count) content.now) }
+// The bytes of a frame up to its padding, into an empty one that the caller has: as an answer its 272 bytes would be moved at each return.
+fn push_frame(frame: &mut ArrayVec<u8, LONGEST_RUN>, tag: u8, count: u8, content: &[u8])
+    requires empty { frame.old.items ≡ [] }
+    requires count { count ≡ length content.now }
+    ensures { frame.new.items ≡ summed (covered tag (short_length count) content.now) }
 {
-    let mut frame = header(tag, count);
+    push_header(frame, tag, count);
     frame.try_extend_from_slice(content).unwrap();
     frame.try_extend_from_slice(&MARK).unwrap();
     let sum = checksum::<Crc16>(frame.as_slice());
     frame.try_extend_from_slice(&sum.to_be_bytes()).unwrap();
-    frame
 }
 
 // The outer tag and the shorter form of the length.
-fn header(tag: u8, count: u8) -> ArrayVec<u8, LONGEST_RUN>
-    ensures { result.items ≡ tag ∷ short_length count }
+fn push_header(frame: &mut ArrayVec<u8, LONGEST_RUN>, tag: u8, count: u8)
+    requires { frame.old.items ≡ [] }
+    ensures { frame.new.items ≡ tag ∷ short_length count }
 {
-    let mut frame = ArrayVec::new();
     frame.push(tag);
     if count > 0x7F {
         frame.push(0x81);
     }
     frame.push(count);
-    frame
 }

@@ -24,12 +24,18 @@ same_digit (suc n) d same h =
       | inr top ↦ let e : d ≡ n = omega arith in rw e (eqb-true _ _ parts.0)
     ]
 
+-- what `encode_upper` writes of one byte, and of many
+pub encode_byte_is : (b : ℕ) → b < 256 → encode_with upper_digits (b ∷ []) ≡ hex_byte b
+unfolding encode_with
+encode_byte_is b fits =
+    let high = same_digit 16 (b / 16) refl (omega arith) in
+    let low = same_digit 16 (b % 16) refl (omega arith) in
+    cc
+
 pub encode_upper_is : (xs : List ℕ) → ((i : ℕ) → get_or xs i 0 < 256) → encode_with upper_digits xs ≡ hex_bytes xs
 unfolding encode_with
 encode_upper_is [] small = refl
 encode_upper_is (b ∷ bs) small =
-    let fits : b < 256 = small 0 in
-    let high = same_digit 16 (b / 16) refl (omega arith) in
-    let low = same_digit 16 (b % 16) refl (omega arith) in
+    let byte = encode_byte_is b (small 0) in
     let rest = encode_upper_is bs (λ i. small (suc i)) in
     cc

@@ -5,11 +5,11 @@ ghost use Rattle.text.specs.Hex.{hex_byte, hex_bytes};
 use std::alloc::{AllocError, Global};
 
 // A byte as two hexadecimal digits.
-#[tactic(auto, using(crate::proofs::Written::hex_byte_written))]
+#[tactic(auto, using(crate::proofs::Written::encode_byte_is))]
 pub fn hex_byte(heap: Global, byte: u8) -> Result<String, AllocError>
     ensures { IfOk result (λ s. string_bytes s ≡ hex_byte byte) }
 {
-    format!(in heap; "{byte:02X}")
+    hex::encode_upper(heap, [byte])
 }
 
 // Bytes one after another, with nothing between them.
